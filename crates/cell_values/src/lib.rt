@@ -1,0 +1,15 @@
+//! Cells, kinds and words: the values that every layer above shares.
+//!
+//! A cell is a missing value or a whole number in the range of its kind. Scalars and directions count
+//! millionths. A word is a list of bytes.
+#![tactic(auto)]
+
+mod cell;
+mod cells;
+mod kind;
+mod word;
+
+pub use cell::{Cell, NumberFault, Over};
+pub use cells::Cells;
+pub use kind::Kind;
+pub use word::Word;
