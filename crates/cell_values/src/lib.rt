@@ -7,9 +7,11 @@
 mod cell;
 mod cells;
 mod kind;
+mod range;
 mod word;
 
 pub use cell::{Cell, NumberFault, Over};
 pub use cells::Cells;
 pub use kind::Kind;
+pub use range::{fits, to_cell};
 pub use word::Word;

@@ -1,0 +1,37 @@
+ghost use Rattle.std.specs.Prelude.{◌≡◌, ◌↔◌, IsTrue};
+ghost use Rattle.cell_values.specs.Kinds.{IsValue, cell_of, greatest, least};
+
+use crate::cell::{Cell, Over};
+use crate::kind::Kind;
+
+// The least and the greatest value of a kind.
+fn bounds(kind: Kind) -> (i64, i64)
+    ensures { result ≡ (least kind, greatest kind) }
+{
+    match kind {
+        Kind::Boolean => (0, 1),
+        Kind::Nominal | Kind::Ordinal => (-2_147_483_647, 2_147_483_647),
+        Kind::Scalar => (-9_000_000_000_000_000_000, 9_000_000_000_000_000_000),
+        Kind::Directional => (0, 359_999_999),
+        Kind::Ldd => (1, 9),
+    }
+}
+
+/// Whether the number is a value of the kind.
+pub fn fits(kind: Kind, value: i128) -> bool
+    ensures { IsTrue result ↔ IsValue kind value }
+{
+    let (least, greatest) = bounds(kind);
+    least as i128 <= value && value <= greatest as i128
+}
+
+/// The cell of a number. `Over` comes exactly where it is no value of the kind.
+pub fn to_cell(kind: Kind, value: i128) -> Result<Cell, Over>
+    ensures { result ≡ cell_of kind value }
+{
+    if fits(kind, value) {
+        Ok(Cell::Val(value as i64))
+    } else {
+        Err(Over)
+    }
+}
