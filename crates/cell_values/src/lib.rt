@@ -4,12 +4,14 @@
 //! millionths. A word is a list of bytes.
 #![tactic(auto)]
 
+mod arithmetic;
 mod cell;
 mod cells;
 mod kind;
 mod range;
 mod word;
 
+pub use arithmetic::add;
 pub use cell::{Cell, NumberFault, Over};
 pub use cells::Cells;
 pub use kind::Kind;
