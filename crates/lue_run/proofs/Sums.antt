@@ -1,0 +1,16 @@
+-- Sums of maps, a cell at a time.
+use Rattle.std.proofs.Common.{◌≡◌, ℕ, ◌+◌, ◌<◌, List, [], ◌∷◌, ◌++◌, length, get_or, drop, refl, sym, ap, ◌∙◌, append_assoc, arith}
+use Rattle.std.specs.Prelude.{Ok, Err, Result}
+use Rattle.cell_values.specs.declared.cell.Cell.{Cell}
+use Rattle.cell_values.specs.declared.cell.Over as no_cell
+use Rattle.cell_values.specs.Arithmetic.{sum_of}
+use Rattle.lue_run.specs.MapSum.{sums_from, with_cell}
+
+-- cells in front of what comes out for the cells behind them
+abbrev pub behind : List Cell → Result (List Cell) ℕ → Result (List Cell) ℕ
+behind front (Ok cells) = Ok (front ++ cells)
+behind front (Err place) = Err place
+
+pub one_more : (front : List Cell) (place : ℕ) (cell : Cell) (rest : Result (List Cell) ℕ) → behind front (with_cell place (Ok cell) rest) ≡ behind (front ++ cell ∷ []) rest
+one_more front place cell (Ok cells) = ap Ok (sym (append_assoc front (cell ∷ []) cells))
+one_more front place cell (Err later) = refl

@@ -1,0 +1,11 @@
+//! Running models: the top calls of the program, and what they promise.
+//!
+//! A call reads a script and its inputs from a folder, puts its outputs into it, and writes one line to a sink. Its
+//! contract says which files are put, in which order, with which end, and why each answer comes.
+#![tactic(auto)]
+
+pub mod command;
+pub mod ended;
+pub mod files;
+pub mod line;
+pub mod map_sum;
