@@ -7,9 +7,11 @@
 mod cell;
 mod cells;
 mod kind;
+mod print;
 mod word;
 
 pub use cell::{Cell, NumberFault, Over};
 pub use cells::Cells;
 pub use kind::Kind;
+pub use print::print_cell;
 pub use word::Word;
