@@ -8,6 +8,7 @@ mod arithmetic;
 mod cell;
 mod cells;
 mod kind;
+mod print;
 mod range;
 mod word;
 
@@ -15,5 +16,6 @@ pub use arithmetic::add;
 pub use cell::{Cell, NumberFault, Over};
 pub use cells::Cells;
 pub use kind::Kind;
+pub use print::print_cell;
 pub use range::{fits, to_cell};
 pub use word::Word;
