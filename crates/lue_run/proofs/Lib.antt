@@ -1,1 +1,3 @@
-mod Sums
+pub mod Rest
+pub mod Rows
+pub mod Sums

@@ -1,10 +1,8 @@
 -- Sums of maps, a cell at a time.
-use Rattle.std.proofs.Common.{◌≡◌, ℕ, ◌+◌, ◌<◌, List, [], ◌∷◌, ◌++◌, length, get_or, drop, refl, sym, ap, ◌∙◌, append_assoc, arith}
+use Rattle.std.proofs.Common.{◌≡◌, ℕ, List, [], ◌∷◌, ◌++◌, refl, sym, ap, append_assoc}
 use Rattle.std.specs.Prelude.{Ok, Err, Result}
 use Rattle.cell_values.specs.declared.cell.Cell.{Cell}
-use Rattle.cell_values.specs.declared.cell.Over as no_cell
-use Rattle.cell_values.specs.Arithmetic.{sum_of}
-use Rattle.lue_run.specs.MapSum.{sums_from, with_cell}
+use Rattle.lue_run.specs.MapSum.{with_cell}
 
 -- cells in front of what comes out for the cells behind them
 abbrev pub behind : List Cell → Result (List Cell) ℕ → Result (List Cell) ℕ

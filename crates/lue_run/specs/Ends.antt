@@ -1,5 +1,5 @@
 -- How a run ends: the answer, its line and its status.
-use Rattle.std.specs.Prelude.{List, ℕ, [], ◌∷◌, ◌++◌, Ok, Err, Result, codes, decimal}
+use Rattle.std.specs.Prelude.{List, ℕ, [], ◌++◌, Ok, Err, Result, codes, decimal}
 use Rattle.outside_io.specs.Course.{Way, Ends, ReadFault, WriteFault, NoMemory, ByContents, ByAbsence, ByLength}
 use Rattle.lue_run.specs.declared.ended.SessionEnd.{SessionEnd}
 use Rattle.lue_run.specs.declared.ended.SessionEnd.TheVariants.{Done, Missing, TooLong, Unbuilt, Overflow, FolderReadFault, FolderWriteFault, Memory}

@@ -1,5 +1,5 @@
 -- The sum of two maps.
-use Rattle.std.specs.Prelude.{◌≡◌, List, ℕ, [], ◌∷◌, ◌+◌, Ok, Err, Result, ⊤}
+use Rattle.std.specs.Prelude.{◌≡◌, List, ℕ, [], ◌∷◌, ◌+◌, ◌<◌, Ok, Err, Result, ⊤}
 use Rattle.cell_values.specs.declared.cell.Cell.{Cell}
 use Rattle.cell_values.specs.declared.cell.Over as no_cell
 use Rattle.lue_run.specs.declared.map_sum.SumEnd.{SumEnd}
@@ -22,3 +22,8 @@ sums_from place (a ∷ more) (b ∷ bs) = with_cell place (sum_of a b) (sums_fro
 abbrev pub SumRefused : Result (List Cell) ℕ → SumEnd → Type 0
 SumRefused sums (Over place) = sums ≡ Err place
 SumRefused sums Memory = ⊤
+
+-- a place that is told is one of so many
+abbrev pub IsWithin : ℕ → SumEnd → Type 0
+IsWithin count (Over place) = place < count
+IsWithin count Memory = ⊤

@@ -1,5 +1,5 @@
 -- The words of a call, and the command that they give.
-use Rattle.std.specs.Prelude.{List, ℕ, Bool, true, false, ◌&&◌, ◌||◌, ◌==◌, nat_le, [], ◌∷◌, Some, None, codes, bytes_eq, if◌then◌else◌, length}
+use Rattle.std.specs.Prelude.{List, ℕ, Bool, false, ◌&&◌, ◌||◌, ◌==◌, nat_le, [], ◌∷◌, Some, None, codes, bytes_eq, if◌then◌else◌, length}
 use Rattle.std.specs.List.{list_all}
 use Rattle.std.specs.Option.{option_map}
 use Rattle.std.specs.declared.option.Option.{Option}

@@ -1,12 +1,12 @@
+ghost use Rattle.std.specs.Prelude.{◌≤◌, length, IfOk};
 ghost use Rattle.outside_io.specs.Course.{Meets, putting, reading, seen_by};
 ghost use Rattle.lue_run.specs.declared.ended.SessionEnd.TheVariants.{Missing, TooLong};
 ghost use Rattle.lue_run.specs.Ends.{way};
 
+use crate::ended::SessionEnd;
 use cell_values::Word;
 use outside_io::{Folder, PutEnd, ReadEnd};
 use std::alloc::Global;
-
-use crate::ended::SessionEnd;
 
 /// The bytes of a file, at most `limit` of them, or the end of the run that has none.
 pub fn fetch<F: Folder>(
@@ -15,8 +15,9 @@ pub fn fetch<F: Folder>(
     name: &Word,
     limit: u64,
 ) -> Result<Vec<u8>, SessionEnd>
-    ensures { Meets way (reading Missing TooLong name.now limit)
+    ensures meets { Meets way (reading Missing TooLong name.now limit)
         (F.state folder.old) (F.state folder.new) (seen_by (λ bytes. bytes.items) result) }
+    ensures short { IfOk result (λ bytes. length bytes.items ≤ limit) }
 {
     match folder.read(alloc, name.bytes(), limit) {
         Ok(bytes) => Ok(bytes),

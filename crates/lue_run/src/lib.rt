@@ -4,8 +4,14 @@
 //! contract says which files are put, in which order, with which end, and why each answer comes.
 #![tactic(auto)]
 
-pub mod command;
-pub mod ended;
-pub mod files;
-pub mod line;
-pub mod map_sum;
+mod command;
+mod ended;
+mod files;
+mod line;
+mod map_sum;
+mod plain;
+mod top;
+
+pub use ended::{Ended, OverAt};
+pub use line::status;
+pub use top::lue_plain;

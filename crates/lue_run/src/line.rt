@@ -1,11 +1,10 @@
 ghost use Rattle.std.specs.Prelude.{◌≡◌, ◌++◌, IfOk, OnErr, OnOk, codes, decimal};
 ghost use Rattle.lue_run.specs.Ends.{line_of, named_line, over_line, status_of};
 
+use crate::ended::{Ended, OverAt};
 use cell_values::Word;
 use itoa::Buffer;
 use std::alloc::{AllocError, Global};
-
-use crate::ended::{Ended, OverAt};
 
 /// The exit status of an answer.
 pub fn status(end: &Ended) -> u8

@@ -1,5 +1,5 @@
 ghost use Rattle.std.specs.Prelude.{◌≡◌, length, MatchResult};
-ghost use Rattle.lue_run.specs.MapSum.{SumRefused, sums_from};
+ghost use Rattle.lue_run.specs.MapSum.{IsWithin, SumRefused, sums_from};
 
 use cell_values::{Cell, Cells, add};
 use std::alloc::{AllocError, AllocFailed, Global};
@@ -36,8 +36,9 @@ impl<T: Drop> From<AllocFailed<T>> for SumEnd {
 /// The sum of two maps of the same number of cells, cell by cell.
 pub fn sum_maps(alloc: Global, first: &[Cell], second: &[Cell]) -> Result<Cells, SumEnd>
     requires { length first.now ≡ length second.now }
-    ensures { MatchResult result (λ cells. sums_from 0 first.now second.now ≡ Ok cells)
+    ensures sums { MatchResult result (λ cells. sums_from 0 first.now second.now ≡ Ok cells)
         (SumRefused (sums_from 0 first.now second.now)) }
+    ensures within { MatchResult result (λ cells. length cells ≡ length first.now) (IsWithin (length first.now)) }
 {
     let mut sums = Vec::with_capacity(alloc, first.len())?;
     for (place, cell) in first.iter().enumerate() {
