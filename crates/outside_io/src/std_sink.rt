@@ -1,0 +1,34 @@
+ghost use Rattle.std.specs.Prelude.{◌≡◌};
+ghost use Rattle.outside_io.specs.StdSink.{std_state};
+
+use crate::{Sink, SinkFailed};
+use std::io;
+use std::io::Write;
+
+/// The standard output of the system. It tells its count of faults and no contents.
+#[derive(Drop)]
+pub struct StdSink<R: Drop> {
+    rt: R,
+    faults: u64,
+}
+
+impl<R: Print + Drop> StdSink<R> {
+    /// The standard output, to which nothing was written by this value.
+    pub fn new(rt: R) -> StdSink<R>
+        ensures { (std_state result).faults ≡ 0 }
+    {
+        StdSink { rt, faults: 0 }
+    }
+}
+
+impl<R: Print + Drop> Sink for StdSink<R> {
+    ghost state = { std_state };
+
+    fn write_all(&mut self, bytes: &[u8]) -> Result<(), SinkFailed> {
+        if io::writer(&self.rt).write_all(bytes).is_err() {
+            self.faults = self.faults.saturating_add(1);
+            return Err(SinkFailed);
+        }
+        Ok(())
+    }
+}
