@@ -1,6 +1,7 @@
 pub mod State
 pub mod Ends
 pub mod Course
+pub mod Counts
 pub mod FailingCalls
 pub mod CalmFolder
 pub mod MemFolder

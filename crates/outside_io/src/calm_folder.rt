@@ -3,6 +3,7 @@ ghost use Rattle.std.specs.Option.{option_map};
 ghost use Rattle.std.specs.FinMap.{get};
 ghost use Rattle.outside_io.specs.State.{IsFound, ReadKeeps, IsPut, PutKeeps};
 ghost use Rattle.outside_io.specs.Ends.{ReadRefused, PutRefused};
+ghost use Rattle.outside_io.specs.Counts.{counts_of, after_read, after_put};
 ghost use Rattle.outside_io.specs.CalmFolder.{files_of, calm_state, untouched, holding};
 
 use crate::{Folder, PutEnd, ReadEnd};
@@ -103,6 +104,7 @@ impl Folder for CalmFolder {
             (λ bytes. IsFound (calm_state self.old) name.now limit bytes.items)
             (ReadRefused (calm_state self.old) (calm_state self.new) name.now limit) }
         ensures keeps { ReadKeeps (calm_state self.old) (calm_state self.new) }
+        ensures counts { counts_of (calm_state self.new) ≡ after_read (counts_of (calm_state self.old)) result }
         ensures never_fails { IsErrOf result ReadEnd.Failed → ⊥ }
     {
         let Some(bytes) = find_bytes(&self.files, name) else {
@@ -121,6 +123,7 @@ impl Folder for CalmFolder {
             (λ _. IsPut (calm_state self.old) (calm_state self.new) name.now bytes.now)
             (PutRefused (calm_state self.old) (calm_state self.new) name.now) }
         ensures keeps { PutKeeps (calm_state self.old) (calm_state self.new) }
+        ensures counts { counts_of (calm_state self.new) ≡ after_put (counts_of (calm_state self.old)) result }
         ensures never_fails { IsErrOf result PutEnd.Failed → ⊥ }
     {
         let file = Held::new(alloc, name, bytes)?;

@@ -1,4 +1,7 @@
-ghost use Rattle.std.specs.Prelude.{◌≡◌, ◌≤◌, length, IfOk};
+ghost use Rattle.std.specs.Prelude.{◌≡◌, ◌≤◌, length, IfOk, MatchResult};
+ghost use Rattle.outside_io.specs.State.{IsFound, ReadKeeps, IsPut, PutKeeps};
+ghost use Rattle.outside_io.specs.Ends.{ReadRefused, PutRefused};
+ghost use Rattle.outside_io.specs.Counts.{counts_of, after_read, after_put};
 ghost use Rattle.outside_io.specs.FileFolder.{file_state, nothing_happened};
 
 use crate::{Folder, PutEnd, ReadEnd};
@@ -38,7 +41,13 @@ impl<R: Files + Drop> FileFolder<R> {
 impl<R: Files + Drop> Folder for FileFolder<R> {
     ghost state = { file_state };
 
-    fn read(&mut self, alloc: Global, name: &[u8], limit: u64) -> Result<Vec<u8>, ReadEnd> {
+    fn read(&mut self, alloc: Global, name: &[u8], limit: u64) -> Result<Vec<u8>, ReadEnd>
+        ensures answer { MatchResult result
+            (λ bytes. IsFound (file_state self.old) name.now limit bytes.items)
+            (ReadRefused (file_state self.old) (file_state self.new) name.now limit) }
+        ensures keeps { ReadKeeps (file_state self.old) (file_state self.new) }
+        ensures counts { counts_of (file_state self.new) ≡ after_read (counts_of (file_state self.old)) result }
+    {
         match read_file(&self.rt, alloc, name, limit) {
             Ok(bytes) => Ok(bytes),
             Err(ReadEnd::Absent) => {
@@ -57,7 +66,13 @@ impl<R: Files + Drop> Folder for FileFolder<R> {
         }
     }
 
-    fn put(&mut self, _alloc: Global, name: &[u8], bytes: &[u8]) -> Result<(), PutEnd> {
+    fn put(&mut self, _alloc: Global, name: &[u8], bytes: &[u8]) -> Result<(), PutEnd>
+        ensures answer { MatchResult result
+            (λ _. IsPut (file_state self.old) (file_state self.new) name.now bytes.now)
+            (PutRefused (file_state self.old) (file_state self.new) name.now) }
+        ensures keeps { PutKeeps (file_state self.old) (file_state self.new) }
+        ensures counts { counts_of (file_state self.new) ≡ after_put (counts_of (file_state self.old)) result }
+    {
         match put_file(&self.rt, name, bytes) {
             Ok(()) => Ok(()),
             Err(PutEnd::Failed) => {
@@ -69,10 +84,17 @@ impl<R: Files + Drop> Folder for FileFolder<R> {
     }
 }
 
-// What an error of the system means for a read.
-fn read_end(error: &io::Error) -> ReadEnd {
+// What an error of the system means for a look at a file.
+fn look_end(error: &io::Error) -> ReadEnd {
     match error.kind() {
         ErrorKind::NotFound => ReadEnd::Absent,
+        _ => read_end(error),
+    }
+}
+
+// What an error of the system means for a read of a file that is open.
+fn read_end(error: &io::Error) -> ReadEnd {
+    match error.kind() {
         ErrorKind::OutOfMemory => ReadEnd::Memory,
         _ => ReadEnd::Failed,
     }
@@ -107,14 +129,14 @@ fn read_file<R: Files>(rt: &R, alloc: Global, name: &[u8], limit: u64) -> Result
     let size = match fs::metadata(rt, path) {
         Ok(found) if found.is_file() => found.len(),
         Ok(_) => return Err(ReadEnd::Failed),
-        Err(error) => return Err(read_end(&error)),
+        Err(error) => return Err(look_end(&error)),
     };
     if size > limit {
         return Err(ReadEnd::TooLong);
     }
     match fs::open(rt, path) {
         Ok(file) => read_all(alloc, file, size, limit),
-        Err(error) => Err(read_end(&error)),
+        Err(error) => Err(look_end(&error)),
     }
 }
 

@@ -1,6 +1,7 @@
 ghost use Rattle.std.specs.Prelude.{◌≡◌, ◌<◌, ◌↔◌, [], length, slice_get, IsSomeAnd, IsTrue, OnOk, OnErr, IsErrOf, MatchResult};
 ghost use Rattle.outside_io.specs.State.{IsFound, ReadKeeps, IsPut, PutKeeps};
 ghost use Rattle.outside_io.specs.Ends.{ReadRefused, PutRefused};
+ghost use Rattle.outside_io.specs.Counts.{counts_of, after_read, after_put};
 ghost use Rattle.outside_io.specs.CalmFolder.{untouched, holding};
 ghost use Rattle.outside_io.specs.MemFolder.{mem_state, mem_puts, calls_made, failing_numbers, is_next_failing, CallMade};
 
@@ -86,6 +87,7 @@ impl Folder for MemFolder {
             (λ bytes. IsFound (mem_state self.old) name.now limit bytes.items)
             (ReadRefused (mem_state self.old) (mem_state self.new) name.now limit) }
         ensures keeps { ReadKeeps (mem_state self.old) (mem_state self.new) }
+        ensures counts { counts_of (mem_state self.new) ≡ after_read (counts_of (mem_state self.old)) result }
         ensures fails { IsErrOf result ReadEnd.Failed ↔ IsTrue (is_next_failing self.old) }
         ensures counted { CallMade self.old self.new }
     {
@@ -101,6 +103,7 @@ impl Folder for MemFolder {
             (λ _. IsPut (mem_state self.old) (mem_state self.new) name.now bytes.now)
             (PutRefused (mem_state self.old) (mem_state self.new) name.now) }
         ensures keeps { PutKeeps (mem_state self.old) (mem_state self.new) }
+        ensures counts { counts_of (mem_state self.new) ≡ after_put (counts_of (mem_state self.old)) result }
         ensures fails { IsErrOf result PutEnd.Failed ↔ IsTrue (is_next_failing self.old) }
         ensures counted { CallMade self.old self.new }
     {

@@ -56,6 +56,7 @@ impl MemSink {
 impl Sink for MemSink {
     ghost use Rattle.std.specs.Prelude.{◌≡◌, true, false, MatchResult};
     ghost use Rattle.outside_io.specs.State.{Rose, Wrote, WroteFront};
+    ghost use Rattle.outside_io.specs.Counts.{after_write};
     ghost use Rattle.outside_io.specs.MemSink.{sink_state, is_next_failing, CallMade, IsRefused, IsWritten};
 
     ghost state = { sink_state };
@@ -66,6 +67,7 @@ impl Sink for MemSink {
             (λ _. Rose (sink_state self.old).faults (sink_state self.new).faults
             × WroteFront (sink_state self.old) (sink_state self.new) bytes.now) }
         ensures later { (sink_state self.old).faults ≤ (sink_state self.new).faults }
+        ensures faults { (sink_state self.new).faults ≡ after_write (sink_state self.old).faults result }
         ensures refused { is_next_failing self.old ≡ true → IsRefused self.old self.new result }
         ensures written { is_next_failing self.old ≡ false → IsWritten self.old self.new bytes.now result }
         ensures counted { CallMade self.old self.new }

@@ -1,4 +1,6 @@
-ghost use Rattle.std.specs.Prelude.{◌≡◌};
+ghost use Rattle.std.specs.Prelude.{◌≡◌, ◌≤◌, MatchResult};
+ghost use Rattle.outside_io.specs.State.{Rose, Wrote, WroteFront};
+ghost use Rattle.outside_io.specs.Counts.{after_write};
 ghost use Rattle.outside_io.specs.StdSink.{std_state};
 
 use crate::{Sink, SinkFailed};
@@ -24,7 +26,14 @@ impl<R: Print + Drop> StdSink<R> {
 impl<R: Print + Drop> Sink for StdSink<R> {
     ghost state = { std_state };
 
-    fn write_all(&mut self, bytes: &[u8]) -> Result<(), SinkFailed> {
+    fn write_all(&mut self, bytes: &[u8]) -> Result<(), SinkFailed>
+        ensures answer { MatchResult result
+            (λ _. Wrote (std_state self.old) (std_state self.new) bytes.now)
+            (λ _. Rose (std_state self.old).faults (std_state self.new).faults
+            × WroteFront (std_state self.old) (std_state self.new) bytes.now) }
+        ensures later { (std_state self.old).faults ≤ (std_state self.new).faults }
+        ensures faults { (std_state self.new).faults ≡ after_write (std_state self.old).faults result }
+    {
         if io::writer(&self.rt).write_all(bytes).is_err() {
             self.faults = self.faults.saturating_add(1);
             return Err(SinkFailed);
