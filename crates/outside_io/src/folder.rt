@@ -1,8 +1,10 @@
-ghost use Rattle.std.specs.Prelude.{MatchResult};
+ghost use Rattle.std.specs.Prelude.{◌≡◌, MatchResult};
 ghost use Rattle.outside_io.specs.State.{FolderState, IsFound, ReadKeeps, IsPut, PutKeeps};
 ghost use Rattle.outside_io.specs.Ends.{ReadRefused, PutRefused};
+ghost use Rattle.outside_io.specs.declared.folder.ReadEnd.TheVariants as reads;
+ghost use Rattle.outside_io.specs.declared.folder.PutEnd.TheVariants as puts;
 
-use std::alloc::Global;
+use std::alloc::{AllocError, AllocFailed, Global};
 
 /// Why a read gave no bytes.
 #[derive(Clone, Copy, Debug, PartialEq, Eq)]
@@ -24,6 +26,30 @@ pub enum PutEnd {
     Failed,
     /// No memory was left.
     Memory,
+}
+
+impl From<AllocError> for ReadEnd {
+    ghost from_gives = { λ _ end. end ≡ reads.Memory };
+
+    fn from(_: AllocError) -> ReadEnd {
+        ReadEnd::Memory
+    }
+}
+
+impl From<AllocError> for PutEnd {
+    ghost from_gives = { λ _ end. end ≡ puts.Memory };
+
+    fn from(_: AllocError) -> PutEnd {
+        PutEnd::Memory
+    }
+}
+
+impl<T: Drop> From<AllocFailed<T>> for PutEnd {
+    ghost from_gives = { λ _ end. end ≡ puts.Memory };
+
+    fn from(_: AllocFailed<T>) -> PutEnd {
+        PutEnd::Memory
+    }
 }
 
 /// Files under names that are lists of bytes: all that a run reads and writes, but for its one line.
