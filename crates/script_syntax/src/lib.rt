@@ -14,6 +14,8 @@
 mod decimal;
 mod fault;
 mod law;
+mod lexer;
+mod pair;
 mod reader;
 mod token;
 mod tree;
