@@ -1,5 +1,5 @@
 -- Reading a text in the pair form from left to right.
-use Rattle.std.specs.Prelude.{◌≡◌, ⊤, ℕ, Bool, true, false, not, ◌&&◌, nat_le, if◌then◌else◌, List, [], ◌∷◌, length, codes, Option, Some, None, Result, Ok, Err}
+use Rattle.std.specs.Prelude.{◌≡◌, ⊤, ℕ, Bool, true, false, not, ◌&&◌, nat_le, ◌==◌, if◌then◌else◌, List, [], ◌∷◌, length, codes, Option, Some, None, Result, Ok, Err}
 use Rattle.std.specs.Option.{option_and_then}
 use Rattle.std.specs.Str.{bytes_eq}
 use Rattle.script_syntax.specs.declared.fault.ReadScript.{ReadScript}
@@ -126,11 +126,6 @@ pub record PlacesWords : Type 0 where
 abbrev pub places_words : Places → PlacesWords
 places_words p = record { x = p.x.now; f = p.f.now; y = p.y.now; g = p.g.now; area = p.area.now; z = p.z.now; left = p.left.now; right = p.right.now }
 
--- the end of a list of tokens
-abbrev pub at_end : {A : Type 0} → List Token → A → Option A
-at_end [] a = Some a
-at_end (t ∷ ts) a = None
-
 -- `binding` ENTRY ENTRY AREA `initial` `report` SUM
 unfoldable pub places_in : List Token → Option PlacesWords
 places_in ts = do
@@ -141,7 +136,7 @@ places_in ts = do
   section ← behind_word (codes "initial") area.1
   statement ← behind_word (codes "report") section
   sum ← sum_at statement
-  at_end sum.rest (record { x = first.name; f = first.file; y = second.name; g = second.file; area = area.0; z = sum.name; left = sum.left; right = sum.right })
+  if length sum.rest == 0 then Some (record { x = first.name; f = first.file; y = second.name; g = second.file; area = area.0; z = sum.name; left = sum.left; right = sum.right }) else None
 
 abbrev pub is_name : List ℕ → Bool
 is_name word = nat_le (length word) 64 && not (is_reserved word)

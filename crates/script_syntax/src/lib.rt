@@ -19,6 +19,7 @@ mod pair;
 mod reader;
 mod token;
 mod tree;
+mod words;
 
 pub use decimal::is_decimal;
 pub use fault::ReadScript;

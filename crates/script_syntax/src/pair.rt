@@ -73,6 +73,7 @@ fn behind_word<'a>(word: &[u8], tokens: &'a [Token]) -> Option<&'a [Token]>
     if first.bytes() == word { Some(rest) } else { None }
 }
 
+#[tactic(auto, unfolding(crate::specs::Reading::entry_at))]
 fn entry_at(tokens: &[Token]) -> Option<Entry<'_>>
     ensures { option_map entry_words result ≡ entry_at tokens.now }
 {
@@ -83,6 +84,7 @@ fn entry_at(tokens: &[Token]) -> Option<Entry<'_>>
     Some(Entry { name, file, rest })
 }
 
+#[tactic(auto, unfolding(crate::specs::Reading::area_at))]
 fn area_at(tokens: &[Token]) -> Option<(&Word, &[Token])>
     ensures { option_map (λ found. (found.0.now, found.1.now)) result ≡ area_at tokens.now }
 {
@@ -92,6 +94,7 @@ fn area_at(tokens: &[Token]) -> Option<(&Word, &[Token])>
     Some((area, rest))
 }
 
+#[tactic(auto, unfolding(crate::specs::Reading::sum_at))]
 fn sum_at(tokens: &[Token]) -> Option<Sum<'_>>
     ensures { option_map sum_words result ≡ sum_at tokens.now }
 {
@@ -110,6 +113,7 @@ fn sum_at(tokens: &[Token]) -> Option<Sum<'_>>
 }
 
 /// The words of a list of tokens with the shape of the pair form, or none where it has another shape.
+#[tactic(auto, unfolding(crate::specs::Reading::places_in))]
 pub fn places_in(tokens: &[Token]) -> Option<Places<'_>>
     ensures { option_map places_words result ≡ places_in tokens.now }
 {
