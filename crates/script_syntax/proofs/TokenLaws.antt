@@ -1,5 +1,5 @@
 -- How the tokens of a text follow from the token at its front.
-use Rattle.std.proofs.Common.{◌≡◌, ℕ, zero, suc, ◌+◌, ◌-◌, ◌<◌, ◌≤◌, Bool, true, false, cond, List, [], ◌∷◌, ◌++◌, length, take, drop, Option, Some, None, Result, Ok, Err, refl, sym, ap, subst, ◌∙◌, append_assoc, arith}
+use Rattle.std.proofs.Common.{◌≡◌, ℕ, zero, suc, ◌-◌, ◌<◌, ◌≤◌, Bool, true, false, cond, List, [], ◌∷◌, ◌++◌, length, take, drop, Option, Some, None, Err, refl, sym, ap, subst, ◌∙◌, append_assoc, arith}
 use Rattle.std.specs.Option.{option_map}
 use Rattle.std.proofs.lemmas.List.{append-nil}
 use Rattle.script_syntax.specs.declared.fault.ReadScript.{ReadScript}
@@ -14,7 +14,7 @@ use Rattle.script_syntax.specs.declared.token.Symbol.{Symbol}
 use Rattle.script_syntax.specs.declared.token.Symbol.TheVariants.{Equal, Plus, Semicolon}
 use Rattle.script_syntax.specs.declared.token.Mode.{Mode}
 use Rattle.script_syntax.specs.declared.token.Mode.TheVariants.{Bindings, BoundFile, AreaFile, Sections}
-use Rattle.script_syntax.specs.Tokens.{spelling, is_blank, is_letter, is_word_byte, is_file_byte, equal_before, symbol_at, plain_token_at, file_token_at, token_at, blank, token, other, unblank, front, mode_after, with_token, at_front, tokens_from}
+use Rattle.script_syntax.specs.Tokens.{spelling, is_blank, is_letter, is_word_byte, is_file_byte, symbol_at, plain_token_at, file_token_at, token_at, blank, unblank, mode_after, with_token, at_front, tokens_from}
 
 -- bytes that belong to what came before are passed over
 pub tokens_from-drop : (bs : List ℕ) (n : ℕ) (mode : Mode) → tokens_from bs n mode ≡ tokens_from (drop n bs) 0 mode
@@ -50,8 +50,8 @@ past_token found b bs mode t h e some =
     ap (λ o. option_map (λ ts. found ++ ts) o) (fronted b bs mode (Some t) h e)
     ∙ (joined found t (tokens_from bs (length (spelling t) - 1) (mode_after mode t))
     ∙ ap (λ o. option_map (λ ts. (found ++ t ∷ []) ++ ts) o)
-      (tokens_from-drop bs (length (spelling t) - 1) (mode_after mode t)
-      ∙ ap (λ r. tokens_from r 0 (mode_after mode t)) (drop_one_less b bs (length (spelling t)) some)))
+    (tokens_from-drop bs (length (spelling t) - 1) (mode_after mode t)
+    ∙ ap (λ r. tokens_from r 0 (mode_after mode t)) (drop_one_less b bs (length (spelling t)) some)))
 
 pub at_no_token : (found : List Token) (b : ℕ) (bs : List ℕ) (mode : Mode) → is_blank b ≡ false → token_at mode (b ∷ bs) ≡ None → going_on found (b ∷ bs) mode ≡ None
 at_no_token found b bs mode h e = ap (λ o. option_map (λ ts. found ++ ts) o) (fronted b bs mode None h e)

@@ -1,4 +1,5 @@
--- Reading a text in the pair form from left to right.
+-- The tree of a text in the pair form, as a function: its tokens are read from left to right, and then its words are
+-- tested. `one_tree` is the law that ties it to the form.
 use Rattle.std.specs.Prelude.{◌≡◌, ⊤, ℕ, Bool, true, false, not, ◌&&◌, nat_le, ◌==◌, if◌then◌else◌, List, [], ◌∷◌, length, codes, Option, Some, None, Result, Ok, Err}
 use Rattle.std.specs.Option.{option_and_then}
 use Rattle.std.specs.Str.{bytes_eq}
@@ -24,9 +25,7 @@ Reads (Err errors.Memory) has = ⊤
 
 -- the same of a script
 abbrev pub ReadsScript : Result Script ReadScript → Option Script → Type 0
-ReadsScript (Ok script) has = has ≡ Some script
-ReadsScript (Err errors.Unbuilt) has = has ≡ None
-ReadsScript (Err errors.Memory) has = ⊤
+ReadsScript answer has = Reads answer has
 
 infixl 10 ◌>>=◌
 abbrev pub ◌>>=◌ : {A B : Type 0} → Option A → (A → Option B) → Option B

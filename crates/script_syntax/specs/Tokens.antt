@@ -1,5 +1,6 @@
--- The tokens of a script text.
-use Rattle.std.specs.Prelude.{ℕ, zero, suc, Bool, true, false, ◌&&◌, ◌||◌, ◌==◌, ◌-◌, nat_le, if◌then◌else◌, List, [], ◌∷◌, length, take_while, codes, Option, Some, None}
+-- The tokens of a script text, as far as the pair form has them: a text with a comment, a number or another symbol has
+-- none.
+use Rattle.std.specs.Prelude.{ℕ, zero, suc, Bool, ◌&&◌, ◌||◌, ◌==◌, ◌-◌, nat_le, if◌then◌else◌, List, [], ◌∷◌, length, take_while, codes, Option, Some, None}
 use Rattle.std.specs.Option.{option_map}
 use Rattle.std.specs.Str.{bytes_eq}
 use Rattle.script_syntax.specs.declared.token.Symbol.{Symbol}

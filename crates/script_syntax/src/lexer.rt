@@ -1,6 +1,6 @@
-ghost use Rattle.std.specs.Prelude.{◌≡◌, ◌<◌, ◌≤◌, length, IfOk, MatchOption};
+ghost use Rattle.std.specs.Prelude.{◌≡◌, ◌≤◌, length};
 ghost use Rattle.std.specs.List.{prefix_len};
-ghost use Rattle.script_syntax.specs.Tokens.{file_token_at, is_blank, is_file_byte, is_letter, is_word_byte, plain_token_at, spelling, symbol_at, token_at, tokens_of};
+ghost use Rattle.script_syntax.specs.Tokens.{file_token_at, is_blank, is_file_byte, is_letter, is_word_byte, plain_token_at, symbol_at, token_at, tokens_of};
 ghost use Rattle.script_syntax.specs.Reading.{Reads};
 
 use crate::fault::ReadScript;
@@ -116,7 +116,7 @@ pub fn tokens_in(alloc: Global, text: &[u8]) -> Result<Items<Token>, ReadScript>
             continue;
         }
         let token = token_at(alloc, mode, rest)?;
-        let (_, left) = rest.split_at(token.len());
+        let (_, left) = rest.split_at(token.byte_len());
         mode = mode.after(&token);
         tokens.push(token)?;
         rest = left;

@@ -17,14 +17,14 @@ mod law;
 mod lexer;
 mod pair;
 mod reader;
+#[cfg(test)]
+mod tests;
 mod token;
 mod tree;
 mod words;
 
-pub use decimal::is_decimal;
 pub use fault::ReadScript;
 pub use law::one_tree;
 pub use reader::read_script;
 pub use sqlite_items::Items;
-pub use token::{Mode, Symbol, Token};
 pub use tree::{Binding, Expr, Script, Statement, Target};

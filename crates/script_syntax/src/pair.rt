@@ -70,7 +70,11 @@ fn behind_word<'a>(word: &[u8], tokens: &'a [Token]) -> Option<&'a [Token]>
     ensures { option_map (λ rest. rest.now) result ≡ behind_word word.now tokens.now }
 {
     let (first, rest) = word_at(tokens)?;
-    if first.bytes() == word { Some(rest) } else { None }
+    if first.bytes() == word {
+        Some(rest)
+    } else {
+        None
+    }
 }
 
 #[tactic(auto, unfolding(crate::specs::Reading::entry_at))]

@@ -1,4 +1,4 @@
-ghost use Rattle.std.specs.Prelude.{◌≡◌, ℕ, List, Some, Ok, Err, IfOk};
+ghost use Rattle.std.specs.Prelude.{◌≡◌, Some, IfOk};
 ghost use Rattle.script_syntax.specs.PairForm.{IsPairForm, binding_of, pair_tree, sum_of};
 ghost use Rattle.script_syntax.specs.Reading.{ReadsScript, places_words, script_of, script_of_tokens, words_of};
 

@@ -23,7 +23,7 @@ pub enum Token {
 
 impl Token {
     /// How many bytes it has in the text.
-    pub fn len(&self) -> usize
+    pub fn byte_len(&self) -> usize
         ensures { result ≡ length (spelling self.now) }
     {
         match self {
