@@ -1,5 +1,5 @@
 -- The pair form of a script, and the tree of a text in this form.
-use Rattle.std.specs.Prelude.{◌≡◌, ◌≢◌, ◌≤◌, ℕ, Bool, true, false, List, [], ◌∷◌, length, codes, Option, Some, Contains}
+use Rattle.std.specs.Prelude.{◌≡◌, ◌≢◌, ◌≤◌, ℕ, Bool, true, false, List, [], ◌∷◌, length, codes, Some}
 use Rattle.std.specs.List.{list_any}
 use Rattle.std.specs.Str.{bytes_eq}
 use Rattle.script_syntax.specs.declared.token.Symbol.TheVariants.{Equal, Plus, Semicolon}
@@ -24,18 +24,17 @@ reserved =
 abbrev pub is_reserved : List ℕ → Bool
 is_reserved word = list_any (λ r. bytes_eq word r) reserved
 
--- a word may stand as a name
+-- the word may stand as a name: it is not reserved, and has at most 64 bytes
 pub record IsName (word : List ℕ) : Type 0 where
   pub free : is_reserved word ≡ false
   pub short : length word ≤ 64
 
--- a file word may stand as the name of a raster's file
+-- the file word may stand as the name of a file: it is no decimal, and has at most 64 bytes
 pub record IsFileName (word : List ℕ) : Type 0 where
   pub no_number : is_decimal_text word ≡ false
   pub short : length word ≤ 64
 
--- the words that a script in the pair form chooses: in `binding X=F; Y=G; areamap X; initial report Z=X+Y;`
--- x is X, f is F, and so on
+-- the words that differ from one script in the pair form to another: two names with their files, and the sum's name
 pub record PairWords : Type 0 where
   pub x : List ℕ
   pub f : List ℕ
@@ -43,7 +42,7 @@ pub record PairWords : Type 0 where
   pub g : List ℕ
   pub z : List ℕ
 
--- the tokens of `binding X=F; Y=G; areamap X; initial report Z=X+Y;`
+-- the tokens `binding` X `=` F `;` Y `=` G `;` `areamap` X `;` `initial` `report` Z `=` X `+` Y `;`
 abbrev pub pair_tokens : PairWords → List Token
 pair_tokens p =
     tokens.Word (codes "binding")
@@ -67,10 +66,11 @@ pub record ArePairWords (p : PairWords) : Type 0 where
   pub f_z : p.f ≢ p.z
   pub g_z : p.g ≢ p.z
 
+-- the binding of a name to a file
 abbrev pub binding_of : List ℕ → List ℕ → Binding
 binding_of name file = record { name = name; target = targets.File file }
 
--- `report Z=X+Y;`
+-- the statement `report` Z `=` X `+` Y
 abbrev pub sum_of : PairWords → Statement
 sum_of p = record { report = true; name = p.z; expr = exprs.Call (codes "+") (exprs.Name p.x ∷ exprs.Name p.y ∷ []) }
 

@@ -1,5 +1,6 @@
--- Reading a text in the pair form from left to right.
-use Rattle.std.specs.Prelude.{◌≡◌, ⊤, ℕ, Bool, true, false, not, ◌&&◌, nat_le, if◌then◌else◌, List, [], ◌∷◌, length, codes, Option, Some, None, Result, Ok, Err}
+-- The tree of a text in the pair form, as a function: its tokens are read from left to right, and then its words are
+-- tested. `one_tree` is the law that ties it to the form.
+use Rattle.std.specs.Prelude.{◌≡◌, ⊤, ℕ, Bool, true, false, not, ◌&&◌, nat_le, ◌==◌, if◌then◌else◌, List, [], ◌∷◌, length, codes, Option, Some, None, Result, Ok, Err}
 use Rattle.std.specs.Option.{option_and_then}
 use Rattle.std.specs.Str.{bytes_eq}
 use Rattle.script_syntax.specs.declared.fault.ReadScript.{ReadScript}
@@ -8,6 +9,9 @@ use Rattle.script_syntax.specs.declared.token.Symbol.{Symbol}
 use Rattle.script_syntax.specs.declared.token.Symbol.TheVariants.{Equal, Plus, Semicolon}
 use Rattle.script_syntax.specs.declared.token.Token.{Token}
 use Rattle.script_syntax.specs.declared.token.Token.TheVariants as tokens
+use Rattle.script_syntax.specs.declared.pair.Entry.{Entry}
+use Rattle.script_syntax.specs.declared.pair.Sum.{Sum}
+use Rattle.script_syntax.specs.declared.pair.Places.{Places}
 use Rattle.script_syntax.specs.declared.tree.Script.{Script}
 use Rattle.script_syntax.specs.Decimal.{is_decimal_text}
 use Rattle.script_syntax.specs.PairForm.{PairWords, is_reserved, pair_tree}
@@ -21,9 +25,7 @@ Reads (Err errors.Memory) has = ⊤
 
 -- the same of a script
 abbrev pub ReadsScript : Result Script ReadScript → Option Script → Type 0
-ReadsScript (Ok script) has = has ≡ Some script
-ReadsScript (Err errors.Unbuilt) has = has ≡ None
-ReadsScript (Err errors.Memory) has = ⊤
+ReadsScript answer has = Reads answer has
 
 infixl 10 ◌>>=◌
 abbrev pub ◌>>=◌ : {A B : Type 0} → Option A → (A → Option B) → Option B
@@ -68,6 +70,9 @@ pub record EntryWords : Type 0 where
   pub file : List ℕ
   pub rest : List Token
 
+abbrev pub entry_words : Entry → EntryWords
+entry_words e = record { name = e.name.now; file = e.file.now; rest = e.rest.now }
+
 -- NAME `=` FILE `;`
 unfoldable pub entry_at : List Token → Option EntryWords
 entry_at ts = do
@@ -92,6 +97,9 @@ pub record SumWords : Type 0 where
   pub right : List ℕ
   pub rest : List Token
 
+abbrev pub sum_words : Sum → SumWords
+sum_words s = record { name = s.name.now; left = s.left.now; right = s.right.now; rest = s.rest.now }
+
 -- NAME `=` LEFT `+` RIGHT `;`
 unfoldable pub sum_at : List Token → Option SumWords
 sum_at ts = do
@@ -104,7 +112,7 @@ sum_at ts = do
   Some (record { name = name.0; left = left.0; right = right.0; rest = rest })
 
 -- the words of a text with the shape of the pair form, each at its place
-pub record Places : Type 0 where
+pub record PlacesWords : Type 0 where
   pub x : List ℕ
   pub f : List ℕ
   pub y : List ℕ
@@ -114,13 +122,11 @@ pub record Places : Type 0 where
   pub left : List ℕ
   pub right : List ℕ
 
--- the end of a list of tokens
-abbrev pub at_end : {A : Type 0} → List Token → A → Option A
-at_end [] a = Some a
-at_end (t ∷ ts) a = None
+abbrev pub places_words : Places → PlacesWords
+places_words p = record { x = p.x.now; f = p.f.now; y = p.y.now; g = p.g.now; area = p.area.now; z = p.z.now; left = p.left.now; right = p.right.now }
 
 -- `binding` ENTRY ENTRY AREA `initial` `report` SUM
-unfoldable pub places_in : List Token → Option Places
+unfoldable pub places_in : List Token → Option PlacesWords
 places_in ts = do
   entries ← behind_word (codes "binding") ts
   first ← entry_at entries
@@ -129,7 +135,7 @@ places_in ts = do
   section ← behind_word (codes "initial") area.1
   statement ← behind_word (codes "report") section
   sum ← sum_at statement
-  at_end sum.rest (record { x = first.name; f = first.file; y = second.name; g = second.file; area = area.0; z = sum.name; left = sum.left; right = sum.right })
+  if length sum.rest == 0 then Some (record { x = first.name; f = first.file; y = second.name; g = second.file; area = area.0; z = sum.name; left = sum.left; right = sum.right }) else None
 
 abbrev pub is_name : List ℕ → Bool
 is_name word = nat_le (length word) 64 && not (is_reserved word)
@@ -141,21 +147,21 @@ abbrev pub are_apart : List ℕ → List ℕ → Bool
 are_apart a b = not (bytes_eq a b)
 
 -- the words that stand at two places are the same there
-abbrev pub agree : Places → Bool
+abbrev pub agree : PlacesWords → Bool
 agree p = bytes_eq p.area p.x && bytes_eq p.left p.x && bytes_eq p.right p.y
 
 -- the words are names and files
-abbrev pub are_words : Places → Bool
+abbrev pub are_words : PlacesWords → Bool
 are_words p = is_name p.x && is_name p.y && is_name p.z && is_file_name p.f && is_file_name p.g
 
 -- the words that must differ do
-abbrev pub differ : Places → Bool
+abbrev pub differ : PlacesWords → Bool
 differ p = are_apart p.x p.y && are_apart p.x p.z && are_apart p.y p.z && are_apart p.f p.z && are_apart p.g p.z
 
-unfoldable pub is_pair : Places → Bool
+unfoldable pub is_pair : PlacesWords → Bool
 is_pair p = agree p && are_words p && differ p
 
-abbrev pub words_of : Places → PairWords
+abbrev pub words_of : PlacesWords → PairWords
 words_of p = record { x = p.x; f = p.f; y = p.y; g = p.g; z = p.z }
 
 unfoldable pub script_of_tokens : List Token → Option Script

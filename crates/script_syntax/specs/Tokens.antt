@@ -1,5 +1,6 @@
--- The tokens of a script text.
-use Rattle.std.specs.Prelude.{ℕ, zero, suc, Bool, true, false, ◌&&◌, ◌||◌, ◌==◌, ◌-◌, nat_le, if◌then◌else◌, List, [], ◌∷◌, length, take_while, codes, Option, Some, None}
+-- The tokens of a script text, as far as the pair form has them: a text with a comment, a number or another symbol has
+-- none.
+use Rattle.std.specs.Prelude.{ℕ, zero, suc, Bool, ◌&&◌, ◌||◌, ◌==◌, ◌-◌, nat_le, if◌then◌else◌, List, [], ◌∷◌, length, take_while, codes, Option, Some, None}
 use Rattle.std.specs.Option.{option_map}
 use Rattle.std.specs.Str.{bytes_eq}
 use Rattle.script_syntax.specs.declared.token.Symbol.{Symbol}
@@ -33,41 +34,46 @@ spelling (tokens.Symbol Equal) = codes "="
 spelling (tokens.Symbol Plus) = codes "+"
 spelling (tokens.Symbol Semicolon) = codes ";"
 
+-- `=` before those bytes: with a second `=` it is a longer token
+abbrev pub equal_before : List ℕ → Option Symbol
+equal_before [] = Some Equal
+equal_before (b ∷ bs) = if b == 61 then None else Some Equal
+
+-- the symbol at the front of a text
+abbrev pub symbol_at : List ℕ → Option Symbol
+symbol_at [] = None
+symbol_at (b ∷ bs) = if b == 61 then equal_before bs else (if b == 43 then Some Plus else (if b == 59 then Some Semicolon else None))
+
+-- the longest word at the front of a text, or else the symbol there
+abbrev pub plain_token_at : List ℕ → Option Token
+plain_token_at [] = None
+plain_token_at (b ∷ bs) = if is_letter b then Some (tokens.Word (b ∷ take_while is_word_byte bs)) else option_map tokens.Symbol (symbol_at (b ∷ bs))
+
+-- the longest file word at the front of a text
+abbrev pub file_token_at : List ℕ → Option Token
+file_token_at [] = None
+file_token_at (b ∷ bs) = if is_word_byte b then Some (tokens.File (b ∷ take_while is_file_byte bs)) else None
+
+-- the token at the front of a text
+abbrev pub token_at : Mode → List ℕ → Option Token
+token_at Bindings text = plain_token_at text
+token_at BoundFile text = file_token_at text
+token_at AreaFile text = file_token_at text
+token_at Sections text = plain_token_at text
+
 -- what stands at the front of a text
 pub data Front : Type 0 where
   blank : Front
   token : Token → Front
   other : Front
 
--- `=` before those bytes: with a second `=` it is a longer token
-abbrev pub equal_before : List ℕ → Front
-equal_before [] = token (tokens.Symbol Equal)
-equal_before (b ∷ bs) = if b == 61 then other else token (tokens.Symbol Equal)
+abbrev pub unblank : Option Token → Front
+unblank None = other
+unblank (Some t) = token t
 
--- a symbol that begins with this byte, before those
-abbrev pub symbol_before : ℕ → List ℕ → Front
-symbol_before b bs =
-    if b == 61 then equal_before bs
-    else (if b == 43 then token (tokens.Symbol Plus)
-    else (if b == 59 then token (tokens.Symbol Semicolon) else other))
-
--- the longest word, or else the symbol, that begins with this byte, before those
-abbrev pub plain_front : ℕ → List ℕ → Front
-plain_front b bs = if is_letter b then token (tokens.Word (b ∷ take_while is_word_byte bs)) else symbol_before b bs
-
--- the longest file word that begins with this byte, before those
-abbrev pub file_front : ℕ → List ℕ → Front
-file_front b bs = if is_word_byte b then token (tokens.File (b ∷ take_while is_file_byte bs)) else other
-
--- the token that begins with this byte, before those, where it is no blank
-abbrev pub token_front : Mode → ℕ → List ℕ → Front
-token_front Bindings b bs = plain_front b bs
-token_front BoundFile b bs = file_front b bs
-token_front AreaFile b bs = file_front b bs
-token_front Sections b bs = plain_front b bs
-
+-- what begins with this byte, before those
 abbrev pub front : Mode → ℕ → List ℕ → Front
-front mode b bs = if is_blank b then blank else token_front mode b bs
+front mode b bs = if is_blank b then blank else unblank (token_at mode (b ∷ bs))
 
 -- among the bindings `=` comes before a file place, and so does `areamap`
 abbrev pub mode_after : Mode → Token → Mode
@@ -97,5 +103,5 @@ tokens_from (b ∷ bs) (suc n) mode = tokens_from bs n mode
 tokens_from (b ∷ bs) zero mode = at_front (front mode b bs) mode (λ n m. tokens_from bs n m)
 
 -- the tokens of a script text, or none where a byte is no blank and begins no token
-unfoldable pub tokens_of : List ℕ → Option (List Token)
+abbrev pub tokens_of : List ℕ → Option (List Token)
 tokens_of text = tokens_from text 0 Bindings

@@ -1,6 +1,6 @@
-ghost use Rattle.std.specs.Prelude.{◌≡◌, ◌≤◌, length};
-ghost use Rattle.std.specs.List.{position_or_len};
-ghost use Rattle.script_syntax.specs.Decimal.{is_decimal_text, is_exponent, is_exponent_mark, is_mantissa, is_scale, without_sign};
+ghost use Rattle.std.specs.Prelude.{◌≡◌, ◌≤◌, ◌||◌, length, count_by};
+ghost use Rattle.std.specs.List.{list_all, list_any, position_or_len};
+ghost use Rattle.script_syntax.specs.Decimal.{is_decimal_text, is_digit, is_point, is_exponent, is_exponent_mark, is_mantissa, is_scale, without_sign};
 
 // How many bytes stand before the mark of an exponent.
 fn mantissa_len(bytes: &[u8]) -> usize
@@ -23,27 +23,42 @@ fn behind_sign(bytes: &[u8]) -> &[u8]
     }
 }
 
+fn are_digits(bytes: &[u8]) -> bool
+    ensures { result ≡ list_all is_digit bytes.now }
+{
+    bytes.iter().all(|b| b.is_ascii_digit())
+}
+
+fn has_digit(bytes: &[u8]) -> bool
+    ensures { result ≡ list_any is_digit bytes.now }
+{
+    bytes.iter().any(|b| b.is_ascii_digit())
+}
+
+fn are_digits_and_points(bytes: &[u8]) -> bool
+    ensures { result ≡ list_all (λ b. is_digit b || is_point b) bytes.now }
+{
+    bytes.iter().all(|b| b.is_ascii_digit() || *b == b'.')
+}
+
+fn point_count(bytes: &[u8]) -> usize
+    ensures { result ≡ count_by is_point bytes.now }
+{
+    bytes.iter().filter(|b| **b == b'.').count()
+}
+
 // Whether these are digits with at most one point, and at least one digit.
 fn mantissa(bytes: &[u8]) -> bool
     ensures { result ≡ is_mantissa bytes.now }
 {
-    if !bytes.iter().all(|b| b.is_ascii_digit() || *b == b'.') {
-        return false;
-    }
-    if bytes.iter().filter(|b| **b == b'.').count() > 1 {
-        return false;
-    }
-    bytes.iter().any(|b| b.is_ascii_digit())
+    are_digits_and_points(bytes) && point_count(bytes) <= 1 && has_digit(bytes)
 }
 
 // Whether these are 1 to 6 digits.
 fn exponent(bytes: &[u8]) -> bool
     ensures { result ≡ is_exponent bytes.now }
 {
-    if bytes.is_empty() || bytes.len() > 6 {
-        return false;
-    }
-    bytes.iter().all(|b| b.is_ascii_digit())
+    !bytes.is_empty() && bytes.len() <= 6 && are_digits(bytes)
 }
 
 // Whether these are nothing, or the mark of an exponent and the exponent.

@@ -8,5 +8,4 @@ pub fn one_tree()
     ensures found { (text : List ℕ) (script : Script) → script_of text ≡ Some script → IsPairForm text script }
     ensures all { (text : List ℕ) (script : Script) → IsPairForm text script → script_of text ≡ Some script }
     ensures one { (text : List ℕ) (a b : Script) → IsPairForm text a → IsPairForm text b → a ≡ b }
-{
-}
+{}

@@ -14,14 +14,17 @@
 mod decimal;
 mod fault;
 mod law;
+mod lexer;
+mod pair;
 mod reader;
+#[cfg(test)]
+mod tests;
 mod token;
 mod tree;
+mod words;
 
-pub use decimal::is_decimal;
 pub use fault::ReadScript;
 pub use law::one_tree;
 pub use reader::read_script;
 pub use sqlite_items::Items;
-pub use token::{Mode, Symbol, Token};
 pub use tree::{Binding, Expr, Script, Statement, Target};

@@ -1,3 +1,6 @@
+ghost use Rattle.std.specs.Prelude.{◌≡◌, length};
+ghost use Rattle.script_syntax.specs.Tokens.{mode_after, spelling};
+
 use cell_values::Word;
 
 /// A token that is a sign.
@@ -18,6 +21,18 @@ pub enum Token {
     Symbol(Symbol),
 }
 
+impl Token {
+    /// How many bytes it has in the text.
+    pub fn byte_len(&self) -> usize
+        ensures { result ≡ length (spelling self.now) }
+    {
+        match self {
+            Token::Word(word) | Token::File(word) => word.bytes().len(),
+            Token::Symbol(_) => 1,
+        }
+    }
+}
+
 /// Where in a script the next token stands, which says what a token is there.
 #[derive(Clone, Copy, Debug, PartialEq, Eq)]
 pub enum Mode {
@@ -29,4 +44,24 @@ pub enum Mode {
     AreaFile,
     /// In the sections behind the area.
     Sections,
+}
+
+impl Mode {
+    /// Where the next token stands, behind this one.
+    pub fn after(self, token: &Token) -> Mode
+        ensures { result ≡ mode_after self token.now }
+    {
+        match (self, token) {
+            (Mode::Bindings, Token::Word(word)) => {
+                if word.bytes() == b"areamap".as_slice() {
+                    Mode::AreaFile
+                } else {
+                    Mode::Bindings
+                }
+            }
+            (Mode::Bindings, Token::Symbol(Symbol::Equal)) => Mode::BoundFile,
+            (Mode::Bindings | Mode::BoundFile, _) => Mode::Bindings,
+            (Mode::AreaFile | Mode::Sections, _) => Mode::Sections,
+        }
+    }
 }

@@ -38,8 +38,5 @@ pub struct Statement {
 pub enum Expr {
     Name(Word),
     /// An operation on the values of its operands. An operator is an operation whose word is its spelling.
-    Call {
-        word: Word,
-        args: Items<Expr>,
-    },
+    Call { word: Word, args: Items<Expr> },
 }
