@@ -132,7 +132,7 @@ abbrev pub PlainGridsAreRead : Type 0
 PlainGridsAreRead = (text : List ℕ) (grid : Grid) → (grid_of text ≡ Some grid) ↔ IsPlainGrid text grid
 
 -- what a reader answers where this is to be read: want of memory may come instead
-abbrev pub ReadsGrid : Result Grid ReadGrid → Option Grid → Type 0
-ReadsGrid (Ok grid) read = read ≡ Some grid
+abbrev pub ReadsGrid : {A : Type 0} → Result A ReadGrid → Option A → Type 0
+ReadsGrid (Ok value) read = read ≡ Some value
 ReadsGrid (Err Unbuilt) read = read ≡ None
 ReadsGrid (Err Memory) read = ⊤

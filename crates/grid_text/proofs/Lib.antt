@@ -1,0 +1,4 @@
+pub mod TokenLaws
+pub mod DigitLaws
+pub mod CellLaws
+pub mod RowLaws
