@@ -2,3 +2,4 @@ pub mod TokenLaws
 pub mod DigitLaws
 pub mod CellLaws
 pub mod RowLaws
+pub mod PlainLaws

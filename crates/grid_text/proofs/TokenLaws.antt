@@ -1,12 +1,9 @@
 -- How a text's first token is found.
 use Rattle.std.proofs.Common.{◌≡◌, ℕ, zero, suc, ◌<◌, Bool, true, false, cond, not, ◌&&◌, List, [], ◌∷◌, ◌++◌, length, take, drop, refl, sym, ap, ◌∙◌, arith}
 use Rattle.std.specs.List.{list_all}
+use Rattle.std.proofs.lemmas.Bool.{and_parts}
 use Rattle.std.proofs.lemmas.List.{take-append-drop}
 use Rattle.grid_text.specs.Tokens.{is_blank, ends_token, joined, is_token_byte, IsEmptyOrToken, tokens}
-
-pub both : (a b : Bool) → (a && b) ≡ true → (a ≡ true) × (b ≡ true)
-both true b h = (refl, h)
-both false b h = absurd (cc)
 
 not_true : (a : Bool) → not a ≡ true → a ≡ false
 not_true true h = absurd (cc)
@@ -16,7 +13,7 @@ not_true false h = refl
 pub tokens_behind_blanks : (bs rest : List ℕ) → list_all is_blank bs ≡ true → tokens (bs ++ rest) ≡ tokens rest
 tokens_behind_blanks [] rest h = refl
 tokens_behind_blanks (b ∷ bs) rest h =
-    let p = both (is_blank b) (list_all is_blank bs) h in
+    let p = and_parts (is_blank b) (list_all is_blank bs) h in
     ap (λ t. cond t (tokens (bs ++ rest)) (joined b (ends_token (bs ++ rest)) (tokens (bs ++ rest)))) p.0 ∙ tokens_behind_blanks bs rest p.1
 
 alone : (b : ℕ) (ts : List (List ℕ)) → joined b true ts ≡ (b ∷ []) ∷ ts
@@ -26,12 +23,12 @@ alone b (t ∷ ts) = refl
 -- a run of other bytes that ends is the first token
 pub tokens_from_run : (b : ℕ) (bs rest : List ℕ) → list_all is_token_byte (b ∷ bs) ≡ true → ends_token rest ≡ true → tokens ((b ∷ bs) ++ rest) ≡ (b ∷ bs) ∷ tokens rest
 tokens_from_run b [] rest h e =
-    let p = both (not (is_blank b)) true h in
+    let p = and_parts (not (is_blank b)) true h in
     ap (λ t. cond t (tokens rest) (joined b (ends_token rest) (tokens rest))) (not_true (is_blank b) p.0)
     ∙ (ap (λ a. joined b a (tokens rest)) e ∙ alone b (tokens rest))
 tokens_from_run b (c ∷ cs) rest h e =
-    let p = both (not (is_blank b)) (list_all is_token_byte (c ∷ cs)) h in
-    let q = both (not (is_blank c)) (list_all is_token_byte cs) p.1 in
+    let p = and_parts (not (is_blank b)) (list_all is_token_byte (c ∷ cs)) h in
+    let q = and_parts (not (is_blank c)) (list_all is_token_byte cs) p.1 in
     ap (λ t. cond t (tokens ((c ∷ cs) ++ rest)) (joined b (is_blank c) (tokens ((c ∷ cs) ++ rest)))) (not_true (is_blank b) p.0)
     ∙ (ap (λ a. joined b a (tokens ((c ∷ cs) ++ rest))) (not_true (is_blank c) q.0)
     ∙ ap (joined b false) (tokens_from_run c cs rest p.1 e))
