@@ -16,7 +16,7 @@ below_power n i most below within =
     let p : 10 ^ i ≤ 10 ^ most = pow-le-pow_right {n = 10} (lit< tt) {i = i} {j = most} within in
     omega (arith, p)
 
-is_digit_byte : (d : ℕ) → 48 ≤ d → d ≤ 57 → is_digit d ≡ true
+pub is_digit_byte : (d : ℕ) → 48 ≤ d → d ≤ 57 → is_digit d ≡ true
 is_digit_byte d low high = rw (le-leb 48 d low, le-leb d 57 high) refl
 
 pub digits_more : (token : List ℕ) (i : ℕ) → i < length token → 48 ≤ get_or token i 0 → get_or token i 0 ≤ 57 → list_all is_digit (take i token) ≡ true → list_all is_digit (take (i + 1) token) ≡ true

@@ -1,5 +1,5 @@
 -- A text is read as a grid exactly where it is of the plain form.
-use Rattle.std.proofs.Common.{◌≡◌, ℕ, zero, suc, ◌*◌, ◌<◌, ◌≤◌, Bool, true, false, cond, ◌&&◌, List, [], ◌∷◌, length, map, Option, Some, None, Result, Ok, Err, refl, sym, ap, subst, ◌∙◌, arith}
+use Rattle.std.proofs.Common.{◌≡◌, ℕ, zero, suc, ◌*◌, Bool, false, ◌&&◌, List, [], ◌∷◌, length, map, Option, Some, None, Result, Ok, Err, refl, sym, ap, subst, ◌∙◌}
 use Rattle.std.specs.Prelude.{codes, nat_lt, nat_le, IfOk}
 use Rattle.std.specs.Option.{option_map, option_and_then}
 use Rattle.std.specs.Str.{bytes_eq}
@@ -10,10 +10,9 @@ use Rattle.cell_values.specs.declared.cell.Cell.{Cell}
 use Rattle.grid_text.specs.declared.grid.Grid.{Grid}
 use Rattle.grid_text.specs.declared.grid.Head.{Head}
 use Rattle.grid_text.specs.declared.fault.ReadGrid.{ReadGrid}
-use Rattle.grid_text.specs.declared.fault.ReadGrid.TheVariants.{Unbuilt, Memory}
 use Rattle.grid_text.specs.Number.{number_of}
 use Rattle.grid_text.specs.Tokens.{tokens}
-use Rattle.grid_text.specs.Plain.{◌>>=◌, where_true, cell_of, cells_of, keyed, PartsOf, parts_of, sizes_of, head_of, grid_of, Writes, IsPlainHead, IsPlainSize, IsPlainGrid, PlainGridsAreRead, ReadsGrid}
+use Rattle.grid_text.specs.Plain.{cell_of, cells_of, keyed, PartsOf, parts_of, sizes_of, head_of, grid_of, Writes, IsPlainHead, IsPlainSize, IsPlainGrid, PlainGridsAreRead, ReadsGrid}
 
 -- ---- the key words and their values
 
@@ -37,11 +36,11 @@ parts_are words p e =
     option_and_then_some _ (keyed (codes "yllcorner") x.1) p e3 (λ y ey e4.
     option_and_then_some _ (keyed (codes "cellsize") y.1) p e4 (λ z ez e5.
     subst (λ q. words ≡ words_of q) (same_Some _ _ e5) (
-        keyed_is _ words c ec ∙ ap (λ us. codes "ncols" ∷ c.0 ∷ us)
-        (keyed_is _ c.1 r er ∙ ap (λ us. codes "nrows" ∷ r.0 ∷ us)
-        (keyed_is _ r.1 x ex ∙ ap (λ us. codes "xllcorner" ∷ x.0 ∷ us)
-        (keyed_is _ x.1 y ey ∙ ap (λ us. codes "yllcorner" ∷ y.0 ∷ us)
-        (keyed_is _ y.1 z ez))))))))))
+    keyed_is _ words c ec ∙ ap (λ us. codes "ncols" ∷ c.0 ∷ us)
+    (keyed_is _ c.1 r er ∙ ap (λ us. codes "nrows" ∷ r.0 ∷ us)
+    (keyed_is _ r.1 x ex ∙ ap (λ us. codes "xllcorner" ∷ x.0 ∷ us)
+    (keyed_is _ x.1 y ey ∙ ap (λ us. codes "yllcorner" ∷ y.0 ∷ us)
+    (keyed_is _ y.1 z ez))))))))))
 
 parts_found : (words : List (List ℕ)) (p : PartsOf) → words ≡ words_of p → parts_of words ≡ Some p
 parts_found words p e = subst (λ us. parts_of us ≡ Some p) (sym e) refl
@@ -57,7 +56,7 @@ sizes_are p s e =
     let t = and_parts (nat_lt 0 rows && nat_lt 0 cols) (nat_le (rows * cols) 4194304) c.0 in
     let u = and_parts (nat_lt 0 rows) (nat_lt 0 cols) t.0 in
     subst (λ (s : ℕ × ℕ). Writes 7 p.rows s.0 × Writes 7 p.cols s.1 × IsPlainSize s.0 s.1) c.1
-      (er, ec, record { some_rows = ltb-true 0 rows u.0; some_cols = ltb-true 0 cols u.1; few = leb-true (rows * cols) 4194304 t.1 })))
+    (er, ec, record { some_rows = ltb-true 0 rows u.0; some_cols = ltb-true 0 cols u.1; few = leb-true (rows * cols) 4194304 t.1 })))
 
 sizes_found : (p : PartsOf) (rows cols : ℕ) → Writes 7 p.rows rows → Writes 7 p.cols cols → IsPlainSize rows cols → sizes_of p ≡ Some (rows, cols)
 unfolding sizes_of
@@ -103,7 +102,7 @@ cells_are (suc n) (word ∷ words) cells e =
     mapped_some _ (cells_of n words) cells e1 (λ more rest e2.
     let r = cells_are n words more rest in
     subst (λ (cs : List Cell). (length cs ≡ suc n) × (map cell_of (word ∷ words) ≡ map Some cs)) e2
-      (ap suc r.0, ap (λ o. o ∷ map cell_of words) read ∙ ap (λ os. Some cell ∷ os) r.1)))
+    (ap suc r.0, ap (λ o. o ∷ map cell_of words) read ∙ ap (λ os. Some cell ∷ os) r.1)))
 
 first_same : {A : Type 0} (x y : A) (xs ys : List A) → x ∷ xs ≡ y ∷ ys → (x ≡ y) × (xs ≡ ys)
 first_same x y xs ys e = (cc, cc)

@@ -180,5 +180,4 @@ pub fn read_grid(alloc: Global, kind: Kind, text: &[u8]) -> Result<Grid, ReadGri
 /// A text is read as a grid exactly where it is of the plain form with these values, so no text has two readings.
 pub fn plain_grids_are_read()
     ensures { PlainGridsAreRead }
-{
-}
+{}

@@ -25,8 +25,16 @@ fn put_line(key: &[u8], value: &[u8], out: &mut Vec<u8>) -> Result<(), AllocErro
 fn put_head(rows: u32, cols: u32, head: &Head, out: &mut Vec<u8>) -> Result<(), AllocError>
     ensures { OnOk result (out.new.items ≡ out.old.items ++ head_lines rows cols head.now) }
 {
-    let x_key: &[u8] = if head.x_center { b"xllcenter" } else { b"xllcorner" };
-    let y_key: &[u8] = if head.y_center { b"yllcenter" } else { b"yllcorner" };
+    let x_key: &[u8] = if head.x_center {
+        b"xllcenter"
+    } else {
+        b"xllcorner"
+    };
+    let y_key: &[u8] = if head.y_center {
+        b"yllcenter"
+    } else {
+        b"yllcorner"
+    };
     put_line(b"ncols", Buffer::new().format(cols).as_bytes(), out)?;
     put_line(b"nrows", Buffer::new().format(rows).as_bytes(), out)?;
     put_line(x_key, head.x.bytes(), out)?;
@@ -79,5 +87,4 @@ pub fn write_grid(
 /// exactly these values.
 pub fn written_grids_read_back()
     ensures { WrittenGridsReadBack }
-{
-}
+{}

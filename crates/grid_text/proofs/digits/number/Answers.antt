@@ -1,4 +1,4 @@
-use Rattle.std.proofs.Common.{◌<◌, ◌^◌, ◌*◌, ◌+◌, ◌-◌, Fits, w64, arith}
+use Rattle.std.proofs.Common.{◌<◌, ◌^◌, arith}
 use Rattle.grid_text.proofs.DigitLaws.{below_power, digits_more, value_more, power_more}
 use Rattle.grid_text.proofs.digits.number.Goals as goal
 

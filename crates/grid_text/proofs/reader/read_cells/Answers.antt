@@ -1,4 +1,4 @@
-use Rattle.std.proofs.Common.{◌≡◌, ◌++◌, ◌∷◌, [], sym, ap, ◌∙◌, subst, ◌-◌, ◌+◌}
+use Rattle.std.proofs.Common.{ap, ◌∙◌, ◌-◌, ◌+◌}
 use Rattle.grid_text.specs.Plain.{cells_of}
 use Rattle.grid_text.specs.Tokens.{tokens}
 use Rattle.grid_text.proofs.CellLaws.{before, cell_read, cell_refused, cell_missing}
