@@ -2,3 +2,4 @@ pub mod Tokens
 pub mod Number
 pub mod Plain
 pub mod Written
+pub mod Reading

@@ -1,5 +1,5 @@
 -- The plain form of a grid text, and how a text of it is read.
-use Rattle.std.specs.Prelude.{◌≡◌, ◌≢◌, ◌↔◌, ℕ, zero, suc, ◌*◌, ◌<◌, ◌≤◌, Bool, true, false, ◌&&◌, ◌==◌, nat_lt, nat_le, List, [], ◌∷◌, length, map, codes, Some, None, Result, Ok, Err, pos, neg_ℤ, if◌then◌else◌, ⊤}
+use Rattle.std.specs.Prelude.{◌≡◌, ◌↔◌, ℕ, zero, suc, ◌*◌, ◌<◌, ◌≤◌, Bool, false, ◌&&◌, ◌==◌, nat_lt, nat_le, List, [], ◌∷◌, length, map, codes, Some, None, Result, Ok, Err, pos, neg_ℤ, if◌then◌else◌, ⊤}
 use Rattle.std.specs.declared.option.Option.{Option}
 use Rattle.std.specs.Option.{option_map, option_and_then}
 use Rattle.std.specs.Str.{bytes_eq}
@@ -132,7 +132,7 @@ abbrev pub PlainGridsAreRead : Type 0
 PlainGridsAreRead = (text : List ℕ) (grid : Grid) → (grid_of text ≡ Some grid) ↔ IsPlainGrid text grid
 
 -- what a reader answers where this is to be read: want of memory may come instead
-abbrev pub ReadsGrid : Result Grid ReadGrid → Option Grid → Type 0
-ReadsGrid (Ok grid) read = read ≡ Some grid
+abbrev pub ReadsGrid : {A : Type 0} → Result A ReadGrid → Option A → Type 0
+ReadsGrid (Ok value) read = read ≡ Some value
 ReadsGrid (Err Unbuilt) read = read ≡ None
 ReadsGrid (Err Memory) read = ⊤

@@ -1,6 +1,6 @@
 -- The one text of a grid.
-use Rattle.std.specs.Prelude.{◌≡◌, ◌≢◌, ℕ, zero, suc, ◌*◌, ◌^◌, ◌<◌, List, [], ◌∷◌, ◌++◌, length, take, drop, codes, decimal, Some, ℤ, pos, negsuc, ◌*ℤ◌, unsigned_abs, if◌then◌else◌}
-use Rattle.std.specs.List.{AllByRecursion}
+use Rattle.std.specs.Prelude.{◌≡◌, ◌≢◌, ℕ, zero, suc, ◌*◌, ◌^◌, ◌<◌, List, [], ◌∷◌, ◌++◌, length, take, drop, codes, decimal, pos, neg_ℤ, unsigned_abs, if◌then◌else◌}
+use Rattle.std.specs.List.{All}
 use Rattle.cell_values.specs.declared.cell.Cell.{Cell}
 use Rattle.cell_values.specs.declared.cell.Cell.TheVariants.{Mv, Val}
 use Rattle.cell_values.specs.declared.kind.Kind.{Kind}
@@ -49,14 +49,14 @@ written_plain rows cols head cells = head_lines rows cols head ++ row_lines Scal
 -- a whole number of at most 12 digits other than -9999, in millionths
 abbrev pub IsPlainCell : Cell → Type 0
 IsPlainCell Mv = ⊥
-IsPlainCell (Val z) = (n : ℤ) × (z ≡ n *ℤ pos 1000000) × (unsigned_abs n < 10 ^ 12) × (n ≢ negsuc 9998)
+IsPlainCell (Val z) = (size : ℕ) × (unsigned_abs z ≡ size * 1000000) × (size < 10 ^ 12) × (z ≢ neg_ℤ (pos 9999000000))
 
 -- values that the plain form can write
 pub record ArePlainValues (grid : Grid) : Type 0 where
   pub within : IsPlainSize grid.rows grid.cols
   pub head : IsPlainHead grid.head
   pub count : length grid.cells ≡ grid.rows * grid.cols
-  pub cells : AllByRecursion IsPlainCell grid.cells
+  pub cells : All IsPlainCell grid.cells
 
 -- values that the plain form can write are those that their text is read as
 abbrev pub WrittenGridsReadBack : Type 0

@@ -4,9 +4,11 @@
 //! grid has and where it lies, and then the cells. A written text is read back as what was written.
 #![tactic(auto)]
 
+mod digits;
 mod fault;
 mod grid;
 mod reader;
+mod tokens;
 mod writer;
 
 pub use fault::ReadGrid;
