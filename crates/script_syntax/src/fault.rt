@@ -4,13 +4,11 @@ ghost use Rattle.script_syntax.specs.declared.fault.ReadScript.TheVariants.{Memo
 use std::alloc::{AllocError, AllocFailed};
 use thiserror::Error;
 
-/// Why a text gave no tree.
+/// Why a text gave no tree: it is not in the form that is read, or there was no memory for its tokens or its tree.
 #[derive(Clone, Copy, Debug, PartialEq, Eq, Drop, Error)]
 pub enum ReadScript {
-    /// The text is not in the form that is read.
     #[error("the script is not in the form that is read")]
     Unbuilt,
-    /// There was no memory for the tokens or the tree.
     #[error("out of memory")]
     Memory,
 }
