@@ -1,7 +1,9 @@
 //! Grid texts: the ASCII grids of ESRI, read and written exactly.
 //!
-//! A text is a row of tokens between blanks: key words with their values, which say how many rows and columns the
-//! grid has and where it lies, and then the cells. A written text is read back as what was written.
+//! A text is a row of tokens between blanks: key words with their values, which say how many rows and
+//! columns the grid has and where it lies, and then the cells. What is read is the plain form: five
+//! key words in a fixed order, and whole numbers. What is written has a line for the missing value
+//! too; without that line it is read back as what was written.
 #![tactic(auto)]
 
 mod digits;

@@ -159,11 +159,13 @@ fn read_plain(alloc: Global, text: &[u8]) -> Result<Grid, ReadGrid>
     })
 }
 
-/// Reads a grid of the plain form, with scalar cells: the key words `ncols`, `nrows`, `xllcorner`, `yllcorner` and
-/// `cellsize` in lower case and in this order, each with its value, and then the cells row by row from the north, all
-/// separated by blanks. The form is a part of ESRI's ASCII grid. Rows and columns have 1 to 7 digits and make at most
-/// 4,194,304 cells; the corner and the size of a cell have 1 to 12 digits. A cell is a whole number of at most 12 digits,
-/// and -9999 is a missing value. `Unbuilt` comes exactly where the text is of another form.
+/// Reads a grid of the plain form, a part of ESRI's ASCII grid, with scalar cells: the key words
+/// `ncols`, `nrows`, `xllcorner`, `yllcorner` and `cellsize` in lower case and in this order, each
+/// with its value, and then the cells row by row from the north, all separated by blanks. Rows and
+/// columns have 1 to 7 digits and make 1 to 4,194,304 cells; corners and the size of a cell have 1
+/// to 12 digits, and the size is above 0. A cell is a whole number of at most 12 digits, with a `-`
+/// where it is negative, and -9999 is a missing value. `Unbuilt` comes exactly where the text is of
+/// another form.
 pub fn read_grid(alloc: Global, kind: Kind, text: &[u8]) -> Result<Grid, ReadGrid>
     requires scalar { kind ≡ kinds.Scalar }
     requires short { length text.now ≤ 268435456 }
@@ -177,7 +179,8 @@ pub fn read_grid(alloc: Global, kind: Kind, text: &[u8]) -> Result<Grid, ReadGri
     read_plain(alloc, text)
 }
 
-/// A text is read as a grid exactly where it is of the plain form with these values, so no text has two readings.
+/// A text is read as a grid exactly where it is of the plain form with these values, so no text has
+/// two readings.
 pub fn plain_grids_are_read()
     ensures { PlainGridsAreRead }
 {}
