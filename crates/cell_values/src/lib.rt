@@ -7,15 +7,19 @@
 mod arithmetic;
 mod cell;
 mod cells;
+mod convert;
 mod kind;
 mod print;
 mod range;
+mod rounding;
 mod word;
 
-pub use arithmetic::add;
+pub use arithmetic::{add, div, int_div, int_mod, mul, sub};
 pub use cell::{Cell, NumberFault, Over};
 pub use cells::Cells;
+pub use convert::to_kind;
 pub use kind::Kind;
 pub use print::print_cell;
 pub use range::{fits, to_cell};
+pub use rounding::{one_nearest, round_div};
 pub use word::Word;
