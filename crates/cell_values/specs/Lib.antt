@@ -1,2 +1,4 @@
+pub mod Decimal
 pub mod Kinds
+pub mod Reading
 pub mod Rounding
