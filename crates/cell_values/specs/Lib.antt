@@ -1,4 +1,5 @@
 pub mod Decimal
 pub mod Kinds
+pub mod Parts
 pub mod Reading
 pub mod Rounding
