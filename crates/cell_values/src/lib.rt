@@ -7,6 +7,7 @@
 mod cell;
 mod cells;
 mod decimal;
+mod digit_row;
 mod kind;
 mod range;
 mod read;

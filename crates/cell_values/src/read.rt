@@ -1,59 +1,92 @@
 //! The value of a decimal text.
 
-ghost use Rattle.std.specs.Prelude.{◌≡◌, ◌↔◌, ℤ, List, ℕ, IsTrue, IsSome, IfOk, Ok, Some};
-ghost use Rattle.cell_values.specs.Decimal.{Decimal, IsDecimal, IsDecimalText, decimal_of};
-ghost use Rattle.cell_values.specs.Reading.{HasSameValue, HasSomeValue, HasValue, cell_read, same_value};
+ghost use Rattle.std.specs.Prelude.{◌≡◌, ◌↔◌, ◌*◌, ◌/◌, ◌^◌, ◌<◌, ◌≤◌, ℤ, List, ℕ, IfOk, if◌then◌else◌, ◌+◌, MatchOption, Ok, Some};
+ghost use Rattle.cell_values.specs.Decimal.{Decimal, IsDecimal, IsDecimalText, denominator, numerator, size_of, with_sign};
+ghost use Rattle.cell_values.specs.Parts.{IsBeyond, IsCut, decimal_with};
+ghost use Rattle.cell_values.specs.Reading.{HasSomeValue, HasValue, cell_read, taken};
 
 use crate::cell::{Cell, NumberFault};
-use crate::decimal::{Parts, number_after};
+use crate::decimal::Parts;
 use crate::kind::Kind;
-use crate::range::to_cell;
+use crate::range::fits;
 
 /// The digits behind the point that scalars and directions keep.
-const MILLIONTHS: i32 = 6;
+const PLACES: usize = 6;
 
-// A fraction cut to a whole number: whether what is cut off is at least a half, and whether it is 0.
+/// A fraction cut to a whole number: whether what is cut off is a half or more, and whether it is 0.
 #[derive(Clone, Copy)]
-struct Cut {
+pub(crate) struct Cut {
     size: u64,
     half: bool,
     exact: bool,
 }
 
-// The two parts of the digits, cut behind the first `count`.
-fn split_parts(parts: Parts<'_>, count: usize) -> ((&[u8], &[u8]), (&[u8], &[u8])) {
-    let (whole, whole_rest) = parts.whole.split_at(count.min(parts.whole.len()));
-    let (fraction, rest) = parts
-        .fraction
-        .split_at((count - whole.len()).min(parts.fraction.len()));
-    ((whole, fraction), (whole_rest, rest))
+// The number with zeros behind it, where it has at most 64 bits.
+fn with_zeros(number: u64, zeros: usize) -> Option<u64>
+    requires { zeros < 2 ^ 32 }
+    ensures { MatchOption result (2 ^ 64 ≤ number * 10 ^ zeros) (λ n. n ≡ number * 10 ^ zeros) }
+{
+    if number == 0 || zeros == 0 {
+        return Some(number);
+    }
+    let Some(power) = 10u64.checked_pow(zeros as u32) else {
+        return None;
+    };
+    number.checked_mul(power)
 }
 
-fn all_zeros(digits: &[u8]) -> bool {
-    digits.iter().all(|d| *d == b'0')
-}
-
-// The size of a decimal in units of 10 to `-places`, where the whole units have at most 64 bits.
-fn cut_at(parts: Parts<'_>, places: i32) -> Option<Cut> {
-    let kept = parts.whole.len() as i32 + parts.exponent + places;
-    let count = kept.max(0) as usize;
-    let (front, back) = split_parts(parts, count);
-    let size = number_after(number_after(0, front.0)?, front.1)?;
-    let zeros = count - front.0.len() - front.1.len();
-    let size = with_zeros(size, zeros as u32)?;
-    let first = back.0.first().or(back.1.first());
+// The size of a decimal in units of 10 to the power of `-places`, where the whole units have at most 64 bits.
+fn cut_at(parts: &Parts<'_>, places: usize) -> Option<Cut>
+    requires { places ≤ 6 }
+    ensures { MatchOption result (2 ^ 64 ≤ 10 ^ places * size_of (decimal_with parts.now) / denominator (decimal_with parts.now)) (λ cut. IsCut (10 ^ places * size_of (decimal_with parts.now)) (denominator (decimal_with parts.now)) cut) }
+{
+    let top = parts.whole.len() + parts.raised() + places;
+    let fallen = parts.fallen();
+    let count = top.saturating_sub(fallen);
+    let row = parts.row();
+    let Some(number) = row.front(count).number() else {
+        return None;
+    };
+    let Some(size) = with_zeros(number, count.saturating_sub(row.len())) else {
+        return None;
+    };
+    let back = row.back(count);
     Some(Cut {
         size,
-        half: kept >= 0 && first.is_some_and(|d| *d >= b'5'),
-        exact: all_zeros(back.0) && all_zeros(back.1),
+        half: fallen <= top && b'5' <= back.digit(0),
+        exact: back.is_zero(),
     })
 }
 
-fn with_zeros(size: u64, zeros: u32) -> Option<u64> {
-    if size == 0 || zeros == 0 {
-        return Some(size);
+// A number with a sign.
+fn signed(negative: bool, size: u64, more: bool) -> i128
+    ensures { result ≡ with_sign negative (if more then size + 1 else size) }
+{
+    let size = i128::from(size) + i128::from(more);
+    if negative { -size } else { size }
+}
+
+// What the kind takes the decimal for, unless that is beyond 64 bits.
+fn value_in(kind: Kind, parts: &Parts<'_>) -> Option<i128>
+    ensures { MatchOption result (IsBeyond (taken kind (numerator (decimal_with parts.now)) (denominator (decimal_with parts.now)))) (λ z. taken kind (numerator (decimal_with parts.now)) (denominator (decimal_with parts.now)) ≡ Some z) }
+{
+    match kind {
+        Kind::Scalar | Kind::Directional => {
+            let Some(cut) = cut_at(parts, PLACES) else {
+                return None;
+            };
+            Some(signed(parts.negative, cut.size, cut.half))
+        }
+        Kind::Boolean | Kind::Nominal | Kind::Ordinal | Kind::Ldd => {
+            let Some(cut) = cut_at(parts, 0) else {
+                return None;
+            };
+            if !cut.exact {
+                return None;
+            }
+            Some(signed(parts.negative, cut.size, false))
+        }
     }
-    10u64.checked_pow(zeros)?.checked_mul(size)
 }
 
 /// The cell of the kind that a decimal text stands for. Scalars and directions are rounded to millionths, ties away from
@@ -67,27 +100,13 @@ pub fn read_cell(kind: Kind, text: &[u8]) -> Result<Cell, NumberFault>
     let Some(parts) = Parts::of(text) else {
         return Err(NumberFault::BadNumber);
     };
-    let Some(size) = size_of(kind, parts) else {
+    let Some(value) = value_in(kind, &parts) else {
         return Err(NumberFault::Range);
     };
-    let value = if parts.negative { -size } else { size };
-    to_cell(kind, value).map_err(|_| NumberFault::Range)
-}
-
-fn size_of(kind: Kind, parts: Parts<'_>) -> Option<i128> {
-    match kind {
-        Kind::Scalar | Kind::Directional => {
-            let cut = cut_at(parts, MILLIONTHS)?;
-            Some(i128::from(cut.size) + i128::from(cut.half))
-        }
-        Kind::Boolean | Kind::Nominal | Kind::Ordinal | Kind::Ldd => {
-            let cut = cut_at(parts, 0)?;
-            if cut.exact {
-                Some(i128::from(cut.size))
-            } else {
-                None
-            }
-        }
+    if fits(kind, value) {
+        Ok(Cell::Val(value as i64))
+    } else {
+        Err(NumberFault::Range)
     }
 }
 
