@@ -4,11 +4,13 @@
 //! millionths. A word is a list of bytes.
 #![tactic(auto)]
 
+mod arithmetic;
 mod cell;
 mod cells;
 mod decimal;
 mod digit_row;
 mod kind;
+mod print;
 mod range;
 mod read;
 mod same;
@@ -16,10 +18,12 @@ mod same;
 mod tests;
 mod word;
 
+pub use arithmetic::add;
 pub use cell::{Cell, NumberFault, Over};
 pub use cells::Cells;
 pub use decimal::{is_decimal, one_decimal};
 pub use kind::Kind;
+pub use print::print_cell;
 pub use range::{fits, to_cell};
 pub use read::{one_cell, read_cell};
 pub use same::same_decimal;

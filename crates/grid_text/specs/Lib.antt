@@ -1,0 +1,5 @@
+pub mod Tokens
+pub mod Number
+pub mod Plain
+pub mod Written
+pub mod Reading
