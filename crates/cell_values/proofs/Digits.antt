@@ -27,6 +27,9 @@ too_many m n i ds below over =
     let step = value_after-drop n ds i below in
     omega (arith, step, more, over)
 
+pub digit_byte : (c : ℕ) → is_ascii_digit c ≡ true → (48 ≤ c) × (c ≤ 57) × (digit_value c ≡ c - 48)
+digit_byte c h = grind (arith, common_steps)
+
 digit_below : (c : ℕ) → is_ascii_digit c ≡ true → digit_value c < 10
 digit_below c h = grind (arith, common_steps)
 
@@ -94,7 +97,9 @@ are_digits-drop (suc n) (x ∷ xs) p = are_digits-drop n xs (both (is_ascii_digi
 -- what is taken and dropped of two pieces
 pub take-append : (n : ℕ) (xs ys : List ℕ) → take n (xs ++ ys) ≡ take n xs ++ take (n - length xs) ys
 take-append zero [] ys = refl
-take-append (suc n) [] ys = refl
+take-append (suc n) [] ys =
+    let e : suc n ≡ suc n - 0 = omega arith in
+    ap (λ k. take k ys) e
 take-append zero (x ∷ xs) ys =
     let e : 0 ≡ 0 - suc (length xs) = omega arith in
     ap (λ k. take k ys) e
@@ -104,7 +109,9 @@ take-append (suc n) (x ∷ xs) ys =
 
 pub drop-append : (n : ℕ) (xs ys : List ℕ) → drop n (xs ++ ys) ≡ drop n xs ++ drop (n - length xs) ys
 drop-append zero [] ys = refl
-drop-append (suc n) [] ys = refl
+drop-append (suc n) [] ys =
+    let e : suc n ≡ suc n - 0 = omega arith in
+    ap (λ k. drop k ys) e
 drop-append zero (x ∷ xs) ys =
     let e : 0 ≡ 0 - suc (length xs) = omega arith in
     ap (λ k. x ∷ (xs ++ drop k ys)) e

@@ -1,14 +1,16 @@
 //! The value of a decimal text.
 
-ghost use Rattle.std.specs.Prelude.{◌≡◌, ◌↔◌, ◌*◌, ◌/◌, ◌^◌, ◌<◌, ◌≤◌, ℤ, List, ℕ, IfOk, if◌then◌else◌, ◌+◌, MatchOption, Ok, Some};
+ghost use Rattle.std.specs.Prelude.{◌≡◌, ◌↔◌, ◌*◌, ◌/◌, ◌^◌, ◌<◌, ◌≤◌, ℤ, pos, ◌*ℤ◌, unsigned_abs, List, ℕ, IfOk, if◌then◌else◌, ◌+◌, MatchOption, Ok, Some, ◌&&◌, get_or, nat_le};
 ghost use Rattle.cell_values.specs.Decimal.{Decimal, IsDecimal, IsDecimalText, denominator, numerator, size_of, with_sign};
-ghost use Rattle.cell_values.specs.Parts.{IsBeyond, IsCut, decimal_with};
-ghost use Rattle.cell_values.specs.Reading.{HasSomeValue, HasValue, cell_read, taken};
+ghost use Rattle.cell_values.specs.Parts.{IsBeyond, IsCut, decimal_with, row_digits};
+ghost use Rattle.cell_values.specs.Rounding.{nearest};
+ghost use Rattle.cell_values.specs.Reading.{HasSomeValue, HasValue, cell_read, quotient, taken};
 
 use crate::cell::{Cell, NumberFault};
 use crate::decimal::Parts;
+use crate::digit_row::Row;
 use crate::kind::Kind;
-use crate::range::fits;
+use crate::range::to_cell;
 
 /// The digits behind the point that scalars and directions keep.
 const PLACES: usize = 6;
@@ -35,6 +37,13 @@ fn with_zeros(number: u64, zeros: usize) -> Option<u64>
     number.checked_mul(power)
 }
 
+// Whether the digits behind a cut are a half or more, where the cut stands behind `fallen` of `top` places.
+fn half_behind(back: &Row<'_>, fallen: usize, top: usize) -> bool
+    ensures { result ≡ (nat_le fallen top && nat_le 53 (get_or (row_digits back.now) 0 48)) }
+{
+    fallen <= top && b'5' <= back.digit(0)
+}
+
 // The size of a decimal in units of 10 to the power of `-places`, where the whole units have at most 64 bits.
 fn cut_at(parts: &Parts<'_>, places: usize) -> Option<Cut>
     requires { places ≤ 6 }
@@ -53,7 +62,7 @@ fn cut_at(parts: &Parts<'_>, places: usize) -> Option<Cut>
     let back = row.back(count);
     Some(Cut {
         size,
-        half: fallen <= top && b'5' <= back.digit(0),
+        half: half_behind(&back, fallen, top),
         exact: back.is_zero(),
     })
 }
@@ -66,26 +75,53 @@ fn signed(negative: bool, size: u64, more: bool) -> i128
     if negative { -size } else { size }
 }
 
+// The nearest number of millionths, unless it is beyond 64 bits.
+fn nearest_in(parts: &Parts<'_>) -> Option<i128>
+    ensures { MatchOption result (2 ^ 64 ≤ unsigned_abs (nearest (pos 1000000 *ℤ numerator (decimal_with parts.now)) (denominator (decimal_with parts.now)))) (λ z. nearest (pos 1000000 *ℤ numerator (decimal_with parts.now)) (denominator (decimal_with parts.now)) ≡ z) }
+{
+    let Some(cut) = cut_at(parts, PLACES) else {
+        return None;
+    };
+    Some(signed(parts.negative, cut.size, cut.half))
+}
+
+// The whole number that the decimal is, if it is one, unless it is beyond 64 bits.
+fn whole_in(parts: &Parts<'_>) -> Option<i128>
+    ensures { MatchOption result (IsBeyond (quotient (numerator (decimal_with parts.now)) (denominator (decimal_with parts.now)))) (λ z. quotient (numerator (decimal_with parts.now)) (denominator (decimal_with parts.now)) ≡ Some z) }
+{
+    let Some(cut) = cut_at(parts, 0) else {
+        return None;
+    };
+    if cut.exact {
+        Some(signed(parts.negative, cut.size, false))
+    } else {
+        None
+    }
+}
+
 // What the kind takes the decimal for, unless that is beyond 64 bits.
 fn value_in(kind: Kind, parts: &Parts<'_>) -> Option<i128>
     ensures { MatchOption result (IsBeyond (taken kind (numerator (decimal_with parts.now)) (denominator (decimal_with parts.now)))) (λ z. taken kind (numerator (decimal_with parts.now)) (denominator (decimal_with parts.now)) ≡ Some z) }
 {
     match kind {
-        Kind::Scalar | Kind::Directional => {
-            let Some(cut) = cut_at(parts, PLACES) else {
-                return None;
-            };
-            Some(signed(parts.negative, cut.size, cut.half))
-        }
-        Kind::Boolean | Kind::Nominal | Kind::Ordinal | Kind::Ldd => {
-            let Some(cut) = cut_at(parts, 0) else {
-                return None;
-            };
-            if !cut.exact {
-                return None;
-            }
-            Some(signed(parts.negative, cut.size, false))
-        }
+        Kind::Scalar | Kind::Directional => nearest_in(parts),
+        Kind::Boolean | Kind::Nominal | Kind::Ordinal | Kind::Ldd => whole_in(parts),
+    }
+}
+
+// The cell of the kind that a text stands for.
+fn cell_in(kind: Kind, text: &[u8]) -> Result<Cell, NumberFault>
+    ensures { result ≡ cell_read kind text.now }
+{
+    let Some(parts) = Parts::of(text) else {
+        return Err(NumberFault::BadNumber);
+    };
+    let Some(value) = value_in(kind, &parts) else {
+        return Err(NumberFault::Range);
+    };
+    match to_cell(kind, value) {
+        Ok(cell) => Ok(cell),
+        Err(_) => Err(NumberFault::Range),
     }
 }
 
@@ -97,17 +133,7 @@ pub fn read_cell(kind: Kind, text: &[u8]) -> Result<Cell, NumberFault>
     ensures bad_number { (result ≡ Err NumberFault.BadNumber) ↔ ¬ (IsDecimalText text.now) }
     ensures range { (result ≡ Err NumberFault.Range) ↔ ((d : Decimal) × IsDecimal text.now d × ¬ (HasSomeValue kind d)) }
 {
-    let Some(parts) = Parts::of(text) else {
-        return Err(NumberFault::BadNumber);
-    };
-    let Some(value) = value_in(kind, &parts) else {
-        return Err(NumberFault::Range);
-    };
-    if fits(kind, value) {
-        Ok(Cell::Val(value as i64))
-    } else {
-        Err(NumberFault::Range)
-    }
+    cell_in(kind, text)
 }
 
 /// A text has at most one cell of a kind, and `cell_read` finds it.

@@ -42,6 +42,13 @@ fn same_size(a: &Parts<'_>, b: &Parts<'_>) -> bool
     is_within(&a, a_start, &b, b_start) && is_within(&b, b_start, &a, a_start)
 }
 
+// Whether two decimals have one exact value.
+fn same_parts(a: &Parts<'_>, b: &Parts<'_>) -> bool
+    ensures { result ≡ same_value (decimal_with a.now) (decimal_with b.now) }
+{
+    same_size(a, b) && (a.negative == b.negative || a.row().is_zero())
+}
+
 /// Whether two decimals have one exact value.
 pub fn same_decimal(a: &[u8], b: &[u8]) -> bool
     requires first { IsSome (decimal_of a.now) }
@@ -55,5 +62,5 @@ pub fn same_decimal(a: &[u8], b: &[u8]) -> bool
     let Some(b) = Parts::of(b) else {
         return false;
     };
-    same_size(&a, &b) && (a.negative == b.negative || a.row().is_zero())
+    same_parts(&a, &b)
 }
