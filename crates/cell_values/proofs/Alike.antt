@@ -195,7 +195,7 @@ zero_product : (s e : ℕ) → 0 < e → (s * e == 0) ≡ (s == 0)
 zero_product zero e some =
     let none : 0 * e ≡ 0 = omega arith in
     ap (λ k. k == 0) none
-zero_product (suc s) e some = same_test (suc s * e == 0) (suc s == 0) (λ h. let none = eqb-true (suc s * e) 0 h in absurd (omega (arith, none))) (λ h. absurd (cc))
+zero_product (suc s) e some = same_test (suc s * e == 0) (suc s == 0) (λ h. let none = eqb-true (suc s * e) 0 h in absurd (omega (arith, none))) (λ h. absurd (omega (arith, eqb-true (suc s) 0 h)))
 
 pub same_value-is : (x y : Decimal) → same_value x y ≡ ((size_of x * denominator y == size_of y * denominator x) && (beq x.negative y.negative || (size_of x == 0)))
 unfolding same_value numerator
