@@ -7,15 +7,28 @@
 mod arithmetic;
 mod cell;
 mod cells;
+mod convert;
+mod decimal;
+mod digit_row;
 mod kind;
 mod print;
 mod range;
+mod read;
+mod rounding;
+mod same;
+#[cfg(test)]
+mod tests;
 mod word;
 
-pub use arithmetic::add;
+pub use arithmetic::{add, div, int_div, int_mod, mul, sub};
 pub use cell::{Cell, NumberFault, Over};
 pub use cells::Cells;
+pub use convert::to_kind;
+pub use decimal::{is_decimal, one_decimal};
 pub use kind::Kind;
 pub use print::print_cell;
 pub use range::{fits, to_cell};
+pub use read::{one_cell, printed_reads_back, read_cell};
+pub use rounding::{one_nearest, round_div};
+pub use same::same_decimal;
 pub use word::Word;
