@@ -15,7 +15,7 @@ use Rattle.cell_values.specs.Kinds.{IsValue, is_value, cell_of, least, greatest}
 use Rattle.cell_values.specs.Rounding.{IsNearest, IsNearestSize, nearest, nearest_size}
 use Rattle.cell_values.specs.Decimal.{Decimal, IsDecimal, IsDecimalText, decimal_of, numerator, denominator, with_sign, fall}
 use Rattle.cell_values.specs.Parts.{IsCut, IsBeyond}
-use Rattle.cell_values.specs.Reading.{IsQuotient, IsTaken, HasValue, HasSomeValue, quotient, taken, cell_taken, cell_of_decimal, cell_read}
+use Rattle.cell_values.specs.Reading.{IsQuotient, IsTaken, HasValue, HasNoValue, IsCellOf, quotient, taken, cell_taken, cell_of_decimal, cell_read}
 use Rattle.cell_values.proofs.DecimalLaws.{decimal-from_text, text-from_decimal}
 use Rattle.cell_values.proofs.Nearest.{nearest_size-unique, nearest_size-IsNearestSize, nearest-pos, nearest-negsuc, nearest-IsNearest, nearest-unique}
 use Rattle.cell_values.proofs.Cuts.{power_pos}
@@ -255,18 +255,14 @@ cell_is_val : (kind : Kind) (o : Option Decimal) (cell : Cell) → cell_of_decim
 cell_is_val kind None cell h = absurd (cc)
 cell_is_val kind (Some d) cell h = is_val kind (taken kind (numerator d) (denominator d)) cell h
 
--- what the cell of a text is
-abbrev pub HasCell : Kind → List ℕ → Cell → Type 0
-HasCell kind text cell = (d : Decimal) × (z : ℤ) × IsDecimal text d × HasValue kind d z × (cell ≡ Val z)
-
-ok_has_cell : (kind : Kind) (text : List ℕ) (cell : Cell) → cell_read kind text ≡ Ok cell → HasCell kind text cell
+ok_has_cell : (kind : Kind) (text : List ℕ) (cell : Cell) → cell_read kind text ≡ Ok cell → IsCellOf kind text cell
 unfolding cell_read
 ok_has_cell kind text cell h =
     let (z, val) = cell_is_val kind (decimal_of text) cell h in
     let (d, is, has) = value-from_cell kind text z (h ∙ ap Ok val) in
     (d, z, is, has, val)
 
-pub cell-has_value : (kind : Kind) (text : List ℕ) (r : Result Cell NumberFault) → r ≡ cell_read kind text → IfOk r (HasCell kind text)
+pub cell-has_value : (kind : Kind) (text : List ℕ) (r : Result Cell NumberFault) → r ≡ cell_read kind text → IfOk r (IsCellOf kind text)
 cell-has_value kind text (Ok cell) h = ok_has_cell kind text cell (sym h)
 cell-has_value kind text (Err fault) h = tt
 
@@ -293,10 +289,6 @@ none_case kind (Some d) none = absurd (none d refl)
 pub no_decimal-bad : (kind : Kind) (text : List ℕ) → ¬ (IsDecimalText text) → cell_read kind text ≡ Err BadNumber
 unfolding cell_read
 no_decimal-bad kind text none = none_case kind (decimal_of text) (λ d h. none (d, text-from_decimal text d h))
-
--- a decimal without a value
-abbrev pub HasNoValue : Kind → List ℕ → Type 0
-HasNoValue kind text = (d : Decimal) × IsDecimal text d × ¬ (HasSomeValue kind d)
 
 range_decimal : (kind : Kind) (o : Option Decimal) → cell_of_decimal kind o ≡ Err Range → (d : Decimal) × (o ≡ Some d)
 range_decimal kind None h = absurd (cc)

@@ -76,15 +76,15 @@ abbrev pub fall : ℤ → ℕ
 fall (pos n) = 0
 fall (negsuc n) = suc n
 
--- The exact value is a whole number over a power of ten: all digits in a row, raised by the exponent,
+-- all digits in a row, raised by an exponent above 0
 unfoldable pub size_of : Decimal → ℕ
 size_of d = digits_value 10 (d.whole ++ d.fraction) * 10 ^ raise d.exponent
 
--- with the sign,
+-- The exact value of a decimal is `numerator` over `denominator`: this whole number
 unfoldable pub numerator : Decimal → ℤ
 numerator d = with_sign d.negative (size_of d)
 
--- over ten for each digit behind the point, and for each step that the exponent falls.
+-- over this power of ten, one ten for each digit behind the point and for each step of an exponent below 0
 unfoldable pub denominator : Decimal → ℕ
 denominator d = 10 ^ (length d.fraction + fall d.exponent)
 

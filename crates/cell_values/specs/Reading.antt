@@ -9,7 +9,7 @@ use Rattle.cell_values.specs.declared.cell.NumberFault.{NumberFault}
 use Rattle.cell_values.specs.declared.cell.NumberFault.TheVariants.{BadNumber, Range}
 use Rattle.cell_values.specs.Kinds.{IsValue, is_value}
 use Rattle.cell_values.specs.Rounding.{IsNearest, nearest}
-use Rattle.cell_values.specs.Decimal.{Decimal, decimal_of, numerator, denominator, with_sign}
+use Rattle.cell_values.specs.Decimal.{Decimal, IsDecimal, decimal_of, numerator, denominator, with_sign}
 
 -- z is the whole number n / d itself
 abbrev pub IsQuotient : ℤ → ℕ → ℤ → Type 0
@@ -32,6 +32,14 @@ pub record HasValue (kind : Kind) (d : Decimal) (z : ℤ) : Type 0 where
 -- the decimal has a value of the kind
 abbrev pub HasSomeValue : Kind → Decimal → Type 0
 HasSomeValue kind d = (z : ℤ) × HasValue kind d z
+
+-- the text is a decimal, and the cell its value of the kind
+abbrev pub IsCellOf : Kind → List ℕ → Cell → Type 0
+IsCellOf kind text cell = (d : Decimal) × (z : ℤ) × IsDecimal text d × HasValue kind d z × (cell ≡ Val z)
+
+-- the text is a decimal without a value of the kind
+abbrev pub HasNoValue : Kind → List ℕ → Type 0
+HasNoValue kind text = (d : Decimal) × IsDecimal text d × ¬ (HasSomeValue kind d)
 
 -- n / d where it is whole
 unfoldable pub quotient : ℤ → ℕ → Option ℤ

@@ -14,8 +14,8 @@ const MOST_BYTES: usize = 128;
 
 const MOST_DIGITS: usize = 6;
 
-/// A decimal by its parts: whether a minus stands first, the digits before and behind the point, whether the exponent is
-/// below 0, and its size.
+/// A decimal by its parts: whether a minus stands first, the digits before and behind the point, whether the
+/// exponent is below 0, and its size.
 #[derive(Clone, Copy)]
 pub(crate) struct Parts<'a> {
     pub(crate) negative: bool,
@@ -184,8 +184,8 @@ fn read_power(text: &[u8]) -> Option<(bool, usize)>
     }
 }
 
-/// Whether the text is a decimal: a sign or none, digits with at most one point, and an exponent of one to six digits
-/// or none, in at most 128 bytes.
+/// Whether the text is a decimal: a sign or none, digits with at most one point and at least one digit, and an
+/// exponent of one to six digits or none, in at most 128 bytes.
 pub fn is_decimal(text: &[u8]) -> bool
     ensures reading { result ≡ is_some (decimal_of text.now) }
     ensures grammar { IsTrue result ↔ IsDecimalText text.now }
