@@ -15,3 +15,6 @@ pub use fault::ReadGrid;
 pub use grid::{Grid, Head};
 pub use reader::{plain_grids_are_read, read_grid};
 pub use writer::{write_grid, written_grids_read_back};
+
+#[cfg(test)]
+mod tests;

@@ -1,4 +1,5 @@
-ghost use Rattle.std.specs.Prelude.{◌≡◌, ◌≤◌, length, IfOk, MatchResult};
+ghost use Rattle.std.specs.Prelude.{◌≡◌, ◌⊎◌, ◌↔◌, ◌<◌, ◌≤◌, length, IfOk, IfSome, IsErrOf, MatchResult};
+ghost use Rattle.std.specs.IoError.{error_kind};
 ghost use Rattle.outside_io.specs.State.{IsFound, ReadKeeps, IsPut, PutKeeps};
 ghost use Rattle.outside_io.specs.Ends.{ReadRefused, PutRefused};
 ghost use Rattle.outside_io.specs.Counts.{counts_of, after_read, after_put};
@@ -85,7 +86,10 @@ impl<R: Files + Drop> Folder for FileFolder<R> {
 }
 
 // What an error of the system means for a look at a file.
-fn look_end(error: &io::Error) -> ReadEnd {
+fn look_end(error: &io::Error) -> ReadEnd
+    ensures absent { (result ≡ ReadEnd.Absent) ↔ (error_kind error.now ≡ ErrorKind.NotFound) }
+    ensures memory { (result ≡ ReadEnd.Memory) ↔ (error_kind error.now ≡ ErrorKind.OutOfMemory) }
+{
     match error.kind() {
         ErrorKind::NotFound => ReadEnd::Absent,
         _ => read_end(error),
@@ -93,7 +97,10 @@ fn look_end(error: &io::Error) -> ReadEnd {
 }
 
 // What an error of the system means for a read of a file that is open.
-fn read_end(error: &io::Error) -> ReadEnd {
+fn read_end(error: &io::Error) -> ReadEnd
+    ensures memory { (result ≡ ReadEnd.Memory) ↔ (error_kind error.now ≡ ErrorKind.OutOfMemory) }
+    ensures other { (result ≡ ReadEnd.Memory) ⊎ (result ≡ ReadEnd.Failed) }
+{
     match error.kind() {
         ErrorKind::OutOfMemory => ReadEnd::Memory,
         _ => ReadEnd::Failed,
@@ -101,7 +108,9 @@ fn read_end(error: &io::Error) -> ReadEnd {
 }
 
 // What an error of the system means for a put.
-fn put_end(error: &io::Error) -> PutEnd {
+fn put_end(error: &io::Error) -> PutEnd
+    ensures { (result ≡ PutEnd.Memory) ↔ (error_kind error.now ≡ ErrorKind.OutOfMemory) }
+{
     match error.kind() {
         ErrorKind::OutOfMemory => PutEnd::Memory,
         _ => PutEnd::Failed,
@@ -141,14 +150,17 @@ fn read_file<R: Files>(rt: &R, alloc: Global, name: &[u8], limit: u64) -> Result
 }
 
 // All bytes that a file has left, at most `limit` of them. There is room for `size` of them from the start, and for
-// one more, which the read that meets the end asks for.
+// one more, which the read that meets the end asks for. A reader that tells its bytes shows that none is lost.
 fn read_all<F: Read + Drop>(
     alloc: Global,
     file: F,
     size: u64,
     limit: u64,
 ) -> Result<Vec<u8>, ReadEnd>
-    ensures { IfOk result (λ bytes. length bytes.items ≤ limit) }
+    ensures short { IfOk result (λ bytes. length bytes.items ≤ limit) }
+    ensures whole { IfSome (F.remaining file) (λ rest. IfOk result (λ bytes. bytes.items ≡ rest)) }
+    ensures long { IfSome (F.remaining file) (λ rest. IsErrOf result ReadEnd.TooLong → limit < length rest) }
+    ensures there { IsErrOf result ReadEnd.Absent → ⊥ }
 {
     let room = size.saturating_add(1) as usize;
     let mut bytes = Vec::with_capacity(alloc, room)?;

@@ -1,4 +1,4 @@
-//! Scripts: the reader of their text, and the tree that it gives.
+//! Scripts in the language of PCRaster: the reader of their text, and the tree that it gives.
 //!
 //! A script binds names to the files of rasters, names the area that a model covers, and says how new rasters come
 //! from those. This reader takes scripts in the pair form:

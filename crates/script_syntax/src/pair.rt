@@ -77,6 +77,7 @@ fn behind_word<'a>(word: &[u8], tokens: &'a [Token]) -> Option<&'a [Token]>
     }
 }
 
+// A name, `=`, a file word and `;`.
 #[tactic(auto, unfolding(crate::specs::Reading::entry_at))]
 fn entry_at(tokens: &[Token]) -> Option<Entry<'_>>
     ensures { option_map entry_words result ≡ entry_at tokens.now }
@@ -88,6 +89,7 @@ fn entry_at(tokens: &[Token]) -> Option<Entry<'_>>
     Some(Entry { name, file, rest })
 }
 
+// `areamap`, a file word and `;`: the word, and the tokens behind.
 #[tactic(auto, unfolding(crate::specs::Reading::area_at))]
 fn area_at(tokens: &[Token]) -> Option<(&Word, &[Token])>
     ensures { option_map (λ found. (found.0.now, found.1.now)) result ≡ area_at tokens.now }
@@ -98,6 +100,7 @@ fn area_at(tokens: &[Token]) -> Option<(&Word, &[Token])>
     Some((area, rest))
 }
 
+// A name, `=`, a word, `+`, a word and `;`.
 #[tactic(auto, unfolding(crate::specs::Reading::sum_at))]
 fn sum_at(tokens: &[Token]) -> Option<Sum<'_>>
     ensures { option_map sum_words result ≡ sum_at tokens.now }

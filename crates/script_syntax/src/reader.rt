@@ -83,7 +83,12 @@ fn read(alloc: Global, text: &[u8]) -> Result<Script, ReadScript>
     read_tokens(alloc, tokens.as_slice())
 }
 
-/// The tree of a script text in the pair form. `Unbuilt` comes exactly where the text is not in it.
+/// The tree of a script text in the pair form: the tokens `binding` X `=` F `;` Y `=` G `;` `areamap` X `;` `initial`
+/// `report` Z `=` X `+` Y `;`, with spaces, tabs, carriage returns and line feeds between them, and no comment.
+/// X, Y and Z are three different names, which are no reserved words; F and G are file words that are no decimals, and
+/// neither is equal to Z. Names and file words have at most 64 bytes.
+///
+/// `Unbuilt` comes exactly where the text is not in this form, and `Memory` where the tokens or the tree find no memory.
 pub fn read_script(alloc: Global, text: &[u8]) -> Result<Script, ReadScript>
     // What is read is in the pair form, and this is its tree.
     ensures found { IfOk result (IsPairForm text.now) }

@@ -11,7 +11,7 @@ use cell_values::Word;
 /// How many bytes a name or a file word has at most.
 const LONGEST: usize = 64;
 
-// The words that are no names.
+/// The words that are no names.
 const RESERVED: [&[u8]; 22] = [
     b"binding", b"areamap", b"timer", b"initial", b"dynamic", b"report", b"if", b"then", b"else",
     b"and", b"or", b"xor", b"not", b"eq", b"ne", b"lt", b"le", b"gt", b"ge", b"div", b"idiv",
