@@ -5,7 +5,7 @@ ghost use Rattle.std.specs.Char.{is_ascii_digit};
 ghost use Rattle.std.specs.List.{prefix_len};
 ghost use Rattle.std.specs.Option.{option_map};
 ghost use Rattle.std.specs.Str.Parse.{digits_value, starts_with_minus, without_leading_sign};
-ghost use Rattle.cell_values.specs.Decimal.{Decimal, IsDecimal, IsDecimalText, are_digits, behind_digits, behind_fraction, decimal_of, exponent_of, fall, fraction_digits, front_digits, has_digits, is_power_letter, is_short_numeral, raise, with_sign};
+ghost use Rattle.cell_values.specs.Decimal.{Decimal, IsDecimal, IsDecimalText, are_digits, behind_digits, behind_fraction, decimal_of, exponent_of, fall_of, fraction_digits, front_digits, has_digits, is_power_letter, is_short_numeral, rise_of, with_sign};
 
 use crate::digit_row::{Row, number_after};
 
@@ -65,16 +65,16 @@ impl Parts<'_> {
     }
 
     /// The exponent where it is above 0, and else 0.
-    pub(crate) fn raised(&self) -> usize
-        ensures value { result ≡ raise (with_sign self.now.falls self.now.power) }
+    pub(crate) fn rise(&self) -> usize
+        ensures value { result ≡ rise_of (with_sign self.now.falls self.now.power) }
         ensures small { result < 1000000 }
     {
         if self.falls { 0 } else { self.power }
     }
 
     /// The size of the exponent where it is below 0, and else 0.
-    pub(crate) fn fallen(&self) -> usize
-        ensures value { result ≡ fall (with_sign self.now.falls self.now.power) }
+    pub(crate) fn fall(&self) -> usize
+        ensures value { result ≡ fall_of (with_sign self.now.falls self.now.power) }
         ensures small { result < 1000000 }
     {
         if self.falls { self.power } else { 0 }

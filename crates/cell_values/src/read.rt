@@ -6,7 +6,7 @@ ghost use Rattle.cell_values.specs.Parts.{IsBeyond, IsCut, decimal_with, row_dig
 ghost use Rattle.cell_values.specs.Kinds.{IsValue};
 ghost use Rattle.cell_values.specs.Printed.{printed_cell};
 ghost use Rattle.cell_values.specs.Rounding.{nearest};
-ghost use Rattle.cell_values.specs.Reading.{HasNoValue, HasValue, IsCellOf, cell_read, quotient, taken};
+ghost use Rattle.cell_values.specs.Reading.{HasNoValue, HasValue, IsCellOf, cell_read, quotient, number_taken};
 
 use crate::cell::{Cell, NumberFault};
 use crate::decimal::Parts;
@@ -53,8 +53,8 @@ fn cut_at(parts: &Parts<'_>, places: usize) -> Option<Cut>
         (2 ^ 64 ≤ 10 ^ places * size_of d / denominator d)
         (λ cut. IsCut (10 ^ places * size_of d) (denominator d) cut) }
 {
-    let top = parts.whole.len() + parts.raised() + places;
-    let fallen = parts.fallen();
+    let top = parts.whole.len() + parts.rise() + places;
+    let fallen = parts.fall();
     let count = top.saturating_sub(fallen);
     let row = parts.row();
     let Some(number) = row.front(count).number() else {
@@ -110,8 +110,8 @@ fn whole_in(parts: &Parts<'_>) -> Option<i128>
 // What the kind takes the decimal for, unless that is beyond 64 bits.
 fn value_in(kind: Kind, parts: &Parts<'_>) -> Option<i128>
     ensures { let d = decimal_with parts.now in MatchOption result
-        (IsBeyond (taken kind (numerator d) (denominator d)))
-        (λ z. taken kind (numerator d) (denominator d) ≡ Some z) }
+        (IsBeyond (number_taken kind (numerator d) (denominator d)))
+        (λ z. number_taken kind (numerator d) (denominator d) ≡ Some z) }
 {
     match kind {
         Kind::Scalar | Kind::Directional => nearest_in(parts),

@@ -37,8 +37,8 @@ fn same_size(a: &Parts<'_>, b: &Parts<'_>) -> bool
     ensures { let x = decimal_with a.now in let y = decimal_with b.now in
         result ≡ (size_of x * denominator y == size_of y * denominator x) }
 {
-    let a_start = b.whole.len() + b.raised() + a.fallen();
-    let b_start = a.whole.len() + a.raised() + b.fallen();
+    let a_start = b.whole.len() + b.rise() + a.fall();
+    let b_start = a.whole.len() + a.rise() + b.fall();
     let (a, b) = (a.row(), b.row());
     is_within(&a, a_start, &b, b_start) && is_within(&b, b_start, &a, a_start)
 }
