@@ -1,2 +1,3 @@
 pub mod Kinds
 pub mod Rounding
+pub mod Printed

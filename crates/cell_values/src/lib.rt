@@ -8,10 +8,12 @@ mod cell;
 mod cells;
 mod kind;
 mod range;
+mod print;
 mod word;
 
 pub use cell::{Cell, NumberFault, Over};
 pub use cells::Cells;
 pub use kind::Kind;
 pub use range::{fits, to_cell};
+pub use print::print_cell;
 pub use word::Word;

@@ -1,0 +1,4 @@
+pub mod Tokens
+pub mod Number
+pub mod Plain
+pub mod Written

@@ -1,0 +1,63 @@
+-- The one text of a grid.
+use Rattle.std.specs.Prelude.{◌≡◌, ◌≢◌, ℕ, zero, suc, ◌*◌, ◌^◌, ◌<◌, List, [], ◌∷◌, ◌++◌, length, take, drop, codes, decimal, Some, ℤ, pos, negsuc, ◌*ℤ◌, unsigned_abs, if◌then◌else◌}
+use Rattle.std.specs.List.{AllByRecursion}
+use Rattle.cell_values.specs.declared.cell.Cell.{Cell}
+use Rattle.cell_values.specs.declared.cell.Cell.TheVariants.{Mv, Val}
+use Rattle.cell_values.specs.declared.kind.Kind.{Kind}
+use Rattle.cell_values.specs.declared.kind.Kind.TheVariants.{Scalar}
+use Rattle.cell_values.specs.Printed.{printed_cell}
+use Rattle.grid_text.specs.declared.grid.Grid.{Grid}
+use Rattle.grid_text.specs.declared.grid.Head.{Head}
+use Rattle.grid_text.specs.Plain.{IsPlainHead, IsPlainSize, IsPlainGrid}
+
+-- a line of a key word and its value
+abbrev pub key_line : List ℕ → List ℕ → List ℕ
+key_line key value = key ++ 32 ∷ (value ++ 10 ∷ [])
+
+-- the lines of a head, which end with the size of a cell
+abbrev pub head_lines : ℕ → ℕ → Head → List ℕ
+head_lines rows cols head =
+    key_line (codes "ncols") (decimal cols)
+    ++ (key_line (codes "nrows") (decimal rows)
+    ++ (key_line (if head.x_center then codes "xllcenter" else codes "xllcorner") head.x
+    ++ (key_line (if head.y_center then codes "yllcenter" else codes "yllcorner") head.y
+    ++ key_line (codes "cellsize") head.size)))
+
+-- a space where more cells follow in a row, and else a line feed
+abbrev pub behind_cell : List Cell → ℕ
+behind_cell [] = 10
+behind_cell (cell ∷ more) = 32
+
+-- the cells of a row, each with what stands behind it
+abbrev pub row_line : Kind → List Cell → List ℕ
+row_line kind [] = []
+row_line kind (cell ∷ more) = printed_cell kind cell ++ behind_cell more ∷ row_line kind more
+
+-- so many rows of cells, a line each
+abbrev pub row_lines : Kind → ℕ → ℕ → List Cell → List ℕ
+row_lines kind zero cols cells = []
+row_lines kind (suc rows) cols cells = row_line kind (take cols cells) ++ row_lines kind rows cols (drop cols cells)
+
+-- the text of a grid
+unfoldable pub written_grid : Kind → ℕ → ℕ → Head → List Cell → List ℕ
+written_grid kind rows cols head cells = head_lines rows cols head ++ (key_line (codes "NODATA_value") (codes "1e31") ++ row_lines kind rows cols cells)
+
+-- the same without the line of the missing value, which the plain form has not
+unfoldable pub written_plain : ℕ → ℕ → Head → List Cell → List ℕ
+written_plain rows cols head cells = head_lines rows cols head ++ row_lines Scalar rows cols cells
+
+-- a whole number of at most 12 digits other than -9999, in millionths
+abbrev pub IsPlainCell : Cell → Type 0
+IsPlainCell Mv = ⊥
+IsPlainCell (Val z) = (n : ℤ) × (z ≡ n *ℤ pos 1000000) × (unsigned_abs n < 10 ^ 12) × (n ≢ negsuc 9998)
+
+-- values that the plain form can write
+pub record ArePlainValues (grid : Grid) : Type 0 where
+  pub within : IsPlainSize grid.rows grid.cols
+  pub head : IsPlainHead grid.head
+  pub count : length grid.cells ≡ grid.rows * grid.cols
+  pub cells : AllByRecursion IsPlainCell grid.cells
+
+-- values that the plain form can write are those that their text is read as
+abbrev pub WrittenGridsReadBack : Type 0
+WrittenGridsReadBack = (grid : Grid) → ArePlainValues grid → IsPlainGrid (written_plain grid.rows grid.cols grid.head grid.cells) grid

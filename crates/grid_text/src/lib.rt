@@ -1,0 +1,15 @@
+//! Grid texts: the ASCII grids of ESRI, read and written exactly.
+//!
+//! A text is a row of tokens between blanks: key words with their values, which say how many rows and columns the
+//! grid has and where it lies, and then the cells. A written text is read back as what was written.
+#![tactic(auto)]
+
+mod fault;
+mod grid;
+mod reader;
+mod writer;
+
+pub use fault::ReadGrid;
+pub use grid::{Grid, Head};
+pub use reader::{plain_grids_are_read, read_grid};
+pub use writer::{write_grid, written_grids_read_back};
