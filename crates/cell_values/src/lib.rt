@@ -6,14 +6,18 @@
 
 mod cell;
 mod cells;
+mod decimal;
 mod kind;
 mod range;
 mod print;
+mod read;
 mod word;
 
 pub use cell::{Cell, NumberFault, Over};
 pub use cells::Cells;
+pub use decimal::is_decimal;
 pub use kind::Kind;
 pub use range::{fits, to_cell};
 pub use print::print_cell;
+pub use read::{read_cell, same_decimal};
 pub use word::Word;

@@ -1,0 +1,120 @@
+-- Decimal texts. Each stands for a whole number times a power of ten, exactly.
+use Rattle.std.specs.Prelude.{◌≡◌, ℕ, ◌+◌, ◌*◌, ◌^◌, ◌<◌, ◌≤◌, zero, suc, Bool, true, false, ◌&&◌, ◌||◌, List, [], ◌∷◌, ◌++◌, length, drop, ℤ, pos, negsuc, neg_ℤ, ◌⊎◌, Option, Some, None, codes, ◌==◌, nat_lt, nat_le, take_while, slice_index, option_map, if◌then◌else◌}
+use Rattle.std.specs.Char.{is_ascii_digit}
+use Rattle.std.specs.List.{prefix_len}
+use Rattle.std.specs.Str.{all_ascii_digits}
+use Rattle.std.specs.Str.Parse.{AllDigits, digits_value, without_leading_sign, starts_with_minus, signed_digits_value}
+
+-- a decimal by its parts: its sign, the digits before and behind the point, as bytes, and its exponent
+pub record Decimal : Type 0 where
+  pub negative : Bool
+  pub whole : List ℕ
+  pub fraction : List ℕ
+  pub exponent : ℤ
+
+-- a number with a sign
+abbrev pub with_sign : Bool → ℕ → ℤ
+with_sign false size = pos size
+with_sign true size = neg_ℤ (pos size)
+
+-- the text of a sign, or no text where the number is not negative
+abbrev pub IsSign : List ℕ → Bool → Type 0
+IsSign text false = (text ≡ []) ⊎ (text ≡ codes "+")
+IsSign text true = text ≡ codes "-"
+
+-- a point and the digits behind it, or no text where there are no such digits
+abbrev pub IsPointed : List ℕ → List ℕ → Type 0
+IsPointed text fraction = (text ≡ codes "." ++ fraction) ⊎ ((text ≡ []) × (fraction ≡ []))
+
+-- `e` or `E`, a sign or none, and one to six digits
+pub record IsPower (text : List ℕ) (exponent : ℤ) : Type 0 where
+  pub letter : List ℕ
+  pub sign : List ℕ
+  pub digits : List ℕ
+  pub negative : Bool
+  pub parts : text ≡ letter ++ sign ++ digits
+  pub lettered : (letter ≡ codes "e") ⊎ (letter ≡ codes "E")
+  pub signed : IsSign sign negative
+  pub numeral : AllDigits 10 digits
+  pub some : 0 < length digits
+  pub few : length digits ≤ 6
+  pub value : exponent ≡ with_sign negative (digits_value 10 digits)
+
+-- an exponent, or no text where it is 0
+abbrev pub IsExponent : List ℕ → ℤ → Type 0
+IsExponent text exponent = IsPower text exponent ⊎ ((text ≡ []) × (exponent ≡ pos 0))
+
+-- The text is this decimal: a sign, digits with at most one point, and an exponent. A digit stands before or behind
+-- the point. The text has at most 128 bytes.
+pub record IsDecimal (text : List ℕ) (d : Decimal) : Type 0 where
+  pub sign : List ℕ
+  pub pointed : List ℕ
+  pub power : List ℕ
+  pub parts : text ≡ sign ++ d.whole ++ pointed ++ power
+  pub short : length text ≤ 128
+  pub signed : IsSign sign d.negative
+  pub whole : AllDigits 10 d.whole
+  pub fraction : AllDigits 10 d.fraction
+  pub some : 0 < length d.whole + length d.fraction
+  pub behind : IsPointed pointed d.fraction
+  pub raised : IsExponent power d.exponent
+
+-- the text is a decimal
+abbrev pub IsDecimalText : List ℕ → Type 0
+IsDecimalText text = (d : Decimal) × IsDecimal text d
+
+-- an exponent above 0, and else 0
+abbrev pub raise : ℤ → ℕ
+raise (pos n) = n
+raise (negsuc n) = 0
+
+-- the size of an exponent below 0, and else 0
+abbrev pub fall : ℤ → ℕ
+fall (pos n) = 0
+fall (negsuc n) = suc n
+
+-- The exact value is a whole number over a power of ten: all digits in a row, raised by the exponent,
+unfoldable pub numerator : Decimal → ℤ
+numerator d = with_sign d.negative (digits_value 10 (d.whole ++ d.fraction) * 10 ^ raise d.exponent)
+
+-- over ten for each digit behind the point, and for each step that the exponent falls.
+unfoldable pub denominator : Decimal → ℕ
+denominator d = 10 ^ (length d.fraction + fall d.exponent)
+
+-- the digits at the front of a text
+abbrev pub front_digits : List ℕ → List ℕ
+front_digits text = take_while is_ascii_digit text
+
+-- what stands behind them
+abbrev pub behind_digits : List ℕ → List ℕ
+behind_digits text = drop (prefix_len is_ascii_digit text) text
+
+-- the digits behind a point at the front, or none
+abbrev pub fraction_digits : List ℕ → List ℕ
+fraction_digits text = if slice_index text 0 == 46 then front_digits (drop 1 text) else []
+
+-- what stands behind the point and its digits
+abbrev pub behind_fraction : List ℕ → List ℕ
+behind_fraction text = if slice_index text 0 == 46 then behind_digits (drop 1 text) else text
+
+-- one to six digits
+abbrev pub is_short_numeral : List ℕ → Bool
+is_short_numeral digits = all_ascii_digits digits && nat_lt 0 (length digits) && nat_le (length digits) 6
+
+-- the exponent that a whole text stands for
+abbrev pub exponent_of : List ℕ → Option ℤ
+exponent_of [] = Some (pos 0)
+exponent_of (letter ∷ text) = if (letter == 101 || letter == 69) && is_short_numeral (without_leading_sign text) then Some (signed_digits_value 10 text) else None
+
+-- a text of at most 128 bytes with a digit before or behind the point
+abbrev pub has_digits : List ℕ → List ℕ → List ℕ → Bool
+has_digits text whole fraction = nat_le (length text) 128 && nat_lt 0 (length whole + length fraction)
+
+-- the decimal that the text is
+unfoldable pub decimal_of : List ℕ → Option Decimal
+decimal_of text =
+    let unsigned = without_leading_sign text in
+    let whole = front_digits unsigned in
+    let rest = behind_digits unsigned in
+    let fraction = fraction_digits rest in
+    if has_digits text whole fraction then option_map (λ exponent. record { negative = starts_with_minus text; whole = whole; fraction = fraction; exponent = exponent }) (exponent_of (behind_fraction rest)) else None
