@@ -1,4 +1,7 @@
 pub mod Tokens
 pub mod Number
-pub mod Plain
+pub mod Key
+pub mod Form
+pub mod Faults
+pub mod Reading
 pub mod Written

@@ -6,10 +6,11 @@
 
 mod fault;
 mod grid;
+mod key;
 mod reader;
 mod writer;
 
-pub use fault::ReadGrid;
+pub use fault::{GridFault, GridKind, ReadGrid};
 pub use grid::{Grid, Head};
-pub use reader::{plain_grids_are_read, read_grid};
+pub use reader::{MAX_TEXT, first_faults_are_told, grids_are_read, read_grid};
 pub use writer::{write_grid, written_grids_read_back};
