@@ -17,7 +17,7 @@ abbrev pub is_center : List ℕ → Bool
 is_center text = is_word (codes "xllcenter") text || is_word (codes "yllcenter") text
 
 -- the key that a text names
-abbrev pub key_of : List ℕ → Option Key
+unfoldable pub key_of : List ℕ → Option Key
 key_of text =
     if is_word (codes "ncols") text then Some Cols else
     if is_word (codes "nrows") text then Some Rows else
@@ -51,7 +51,7 @@ abbrev pub above_zero : ℕ → Option ℕ
 above_zero n = if nat_lt 0 n then Some n else None
 
 -- the number of rows or columns that 1 to 7 digits write
-abbrev pub side_of : List ℕ → Option ℕ
+unfoldable pub side_of : List ℕ → Option ℕ
 side_of value = option_and_then above_zero (number_of 7 value)
 
 -- a decimal above 0
