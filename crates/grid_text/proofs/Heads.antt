@@ -89,14 +89,14 @@ pub ended_is : (token : Token) (more : List Token) → ends_pairs (token ∷ mor
 ended_is token more ended = option_cases (key_of token.bytes) (λ none. none) (λ key is. let bad : is_none (Some key) ≡ true = sym (ap (λ (o : Option Key). is_none o) is) ∙ ended in absurd (cc))
 
 -- the pairs end at a token that is no key word
-ends_read : (text_len : ℕ) (before : List Pair) (rest : List Token) → ends_pairs rest ≡ true → pairs_from text_len before rest ≡ Ok (before, rest)
+pub ends_read : (text_len : ℕ) (before : List Pair) (rest : List Token) → ends_pairs rest ≡ true → pairs_from text_len before rest ≡ Ok (before, rest)
 unfolding pairs_from
 ends_read text_len before [] ended = refl
 ends_read text_len before (word ∷ []) ended = ap (word_alone text_len before word) (ended_is word [] ended)
 ends_read text_len before (word ∷ value ∷ more) ended = ap (λ o. pair_taken before word value more o (pairs_from text_len (before ++ record { word = word; value = value } ∷ []) more)) (ended_is word (value ∷ more) ended)
 
 -- a pair that is taken
-pair_read : (text_len : ℕ) (before : List Pair) (p : Pair) (rest : List Token) (key : Key) → key_of p.word.bytes ≡ Some key → pairs_of key before ≡ [] → is_value_of key p.value.bytes ≡ true → is_too_large key p.value.bytes before ≡ false
+pub pair_read : (text_len : ℕ) (before : List Pair) (p : Pair) (rest : List Token) (key : Key) → key_of p.word.bytes ≡ Some key → pairs_of key before ≡ [] → is_value_of key p.value.bytes ≡ true → is_too_large key p.value.bytes before ≡ false
     → pairs_from text_len before (p.word ∷ p.value ∷ rest) ≡ pairs_from text_len (before ++ p ∷ []) rest
 unfolding pairs_from
 pair_read text_len before p rest key is new good small =

@@ -1,7 +1,13 @@
 pub mod Tools
+pub mod TokenLaws
+pub mod DigitLaws
+pub mod WordLaws
+pub mod RowLaws
 pub mod Pairs
 pub mod Heads
 pub mod Order
 pub mod HeadFaults
 pub mod CellFaults
 pub mod Laws
+pub mod GivenLaws
+pub mod CellLaws

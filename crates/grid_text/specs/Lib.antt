@@ -4,4 +4,5 @@ pub mod Key
 pub mod Form
 pub mod Faults
 pub mod Reading
+pub mod Steps
 pub mod Written

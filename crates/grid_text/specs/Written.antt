@@ -1,6 +1,6 @@
 -- The one text of a grid.
 use Rattle.std.specs.Prelude.{◌≡◌, ℕ, zero, suc, ◌*◌, Bool, true, List, [], ◌∷◌, ◌++◌, length, take, drop, codes, decimal, if◌then◌else◌}
-use Rattle.std.specs.List.{AllByRecursion}
+use Rattle.std.specs.List.{All}
 use Rattle.cell_values.specs.declared.cell.Cell.{Cell}
 use Rattle.cell_values.specs.declared.kind.Kind.{Kind}
 use Rattle.cell_values.specs.Kinds.{IsCell}
@@ -53,7 +53,7 @@ pub record AreGridValues (kind : Kind) (grid : Grid) : Type 0 where
   pub y : is_coordinate grid.head.y ≡ true
   pub size : is_cell_size grid.head.size ≡ true
   pub count : length grid.cells ≡ grid.rows * grid.cols
-  pub cells : AllByRecursion (IsCell kind) grid.cells
+  pub cells : All (IsCell kind) grid.cells
 
 -- the text of such values is a grid with exactly these values, and with no others
 abbrev pub WrittenGridsReadBack : Type 0

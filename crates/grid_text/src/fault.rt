@@ -1,5 +1,5 @@
 ghost use Rattle.std.specs.Prelude.{◌≡◌};
-ghost use Rattle.grid_text.specs.declared.fault.ReadGrid.TheVariants.{Memory};
+ghost use Rattle.grid_text.specs.declared.fault.ReadGrid.TheVariants.{Fault, Memory};
 
 use std::alloc::{AllocError, AllocFailed};
 use thiserror::Error;
@@ -35,10 +35,18 @@ pub struct GridFault {
 pub enum ReadGrid {
     /// The text is no grid of the kind.
     #[error(transparent)]
-    Fault(#[from] GridFault),
+    Fault(GridFault),
     /// The memory did not suffice.
     #[error("out of memory")]
     Memory,
+}
+
+impl From<GridFault> for ReadGrid {
+    ghost from_gives = { λ fault e. e ≡ Fault fault };
+
+    fn from(fault: GridFault) -> ReadGrid {
+        ReadGrid::Fault(fault)
+    }
 }
 
 impl From<AllocError> for ReadGrid {

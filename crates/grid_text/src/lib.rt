@@ -4,10 +4,15 @@
 //! grid has and where it lies, and then the cells. A written text is read back as what was written.
 #![tactic(auto)]
 
+mod cells;
+mod digits;
 mod fault;
 mod grid;
+mod head;
 mod key;
 mod reader;
+mod tokens;
+mod values;
 mod writer;
 
 pub use fault::{GridFault, GridKind, ReadGrid};
