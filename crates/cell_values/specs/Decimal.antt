@@ -1,9 +1,8 @@
 -- Decimal texts. Each stands for a whole number times a power of ten, exactly.
-use Rattle.std.specs.Prelude.{◌≡◌, ℕ, ◌+◌, ◌*◌, ◌^◌, ◌<◌, ◌≤◌, zero, suc, Bool, true, false, ◌&&◌, ◌||◌, List, [], ◌∷◌, ◌++◌, length, drop, ℤ, pos, negsuc, neg_ℤ, ◌⊎◌, Option, Some, None, codes, ◌==◌, nat_lt, nat_le, take_while, slice_index, option_map, if◌then◌else◌}
+use Rattle.std.specs.Prelude.{◌≡◌, ℕ, ◌+◌, ◌*◌, ◌^◌, ◌<◌, ◌≤◌, suc, Bool, true, false, ◌&&◌, ◌||◌, IsTrue, List, [], ◌∷◌, ◌++◌, length, drop, ℤ, pos, negsuc, neg_ℤ, ◌⊎◌, Option, Some, None, codes, ◌==◌, nat_lt, nat_le, take_while, slice_index, option_map, if◌then◌else◌}
 use Rattle.std.specs.Char.{is_ascii_digit}
-use Rattle.std.specs.List.{prefix_len}
-use Rattle.std.specs.Str.{all_ascii_digits}
-use Rattle.std.specs.Str.Parse.{AllDigits, digits_value, without_leading_sign, starts_with_minus, signed_digits_value}
+use Rattle.std.specs.List.{list_all, prefix_len}
+use Rattle.std.specs.Str.Parse.{digits_value, without_leading_sign, starts_with_minus}
 
 -- a decimal by its parts: its sign, the digits before and behind the point, as bytes, and its exponent
 pub record Decimal : Type 0 where
@@ -11,6 +10,10 @@ pub record Decimal : Type 0 where
   pub whole : List ℕ
   pub fraction : List ℕ
   pub exponent : ℤ
+
+-- digits alone
+abbrev pub are_digits : List ℕ → Bool
+are_digits text = list_all is_ascii_digit text
 
 -- a number with a sign
 abbrev pub with_sign : Bool → ℕ → ℤ
@@ -35,7 +38,7 @@ pub record IsPower (text : List ℕ) (exponent : ℤ) : Type 0 where
   pub parts : text ≡ letter ++ sign ++ digits
   pub lettered : (letter ≡ codes "e") ⊎ (letter ≡ codes "E")
   pub signed : IsSign sign negative
-  pub numeral : AllDigits 10 digits
+  pub numeral : IsTrue (are_digits digits)
   pub some : 0 < length digits
   pub few : length digits ≤ 6
   pub value : exponent ≡ with_sign negative (digits_value 10 digits)
@@ -53,8 +56,8 @@ pub record IsDecimal (text : List ℕ) (d : Decimal) : Type 0 where
   pub parts : text ≡ sign ++ d.whole ++ pointed ++ power
   pub short : length text ≤ 128
   pub signed : IsSign sign d.negative
-  pub whole : AllDigits 10 d.whole
-  pub fraction : AllDigits 10 d.fraction
+  pub whole : IsTrue (are_digits d.whole)
+  pub fraction : IsTrue (are_digits d.fraction)
   pub some : 0 < length d.whole + length d.fraction
   pub behind : IsPointed pointed d.fraction
   pub raised : IsExponent power d.exponent
@@ -74,8 +77,12 @@ fall (pos n) = 0
 fall (negsuc n) = suc n
 
 -- The exact value is a whole number over a power of ten: all digits in a row, raised by the exponent,
+unfoldable pub size_of : Decimal → ℕ
+size_of d = digits_value 10 (d.whole ++ d.fraction) * 10 ^ raise d.exponent
+
+-- with the sign,
 unfoldable pub numerator : Decimal → ℤ
-numerator d = with_sign d.negative (digits_value 10 (d.whole ++ d.fraction) * 10 ^ raise d.exponent)
+numerator d = with_sign d.negative (size_of d)
 
 -- over ten for each digit behind the point, and for each step that the exponent falls.
 unfoldable pub denominator : Decimal → ℕ
@@ -99,22 +106,29 @@ behind_fraction text = if slice_index text 0 == 46 then behind_digits (drop 1 te
 
 -- one to six digits
 abbrev pub is_short_numeral : List ℕ → Bool
-is_short_numeral digits = all_ascii_digits digits && nat_lt 0 (length digits) && nat_le (length digits) 6
+is_short_numeral digits = are_digits digits && nat_lt 0 (length digits) && nat_le (length digits) 6
+
+-- `e` or `E`
+abbrev pub is_power_letter : ℕ → Bool
+is_power_letter letter = letter == 101 || letter == 69
 
 -- the exponent that a whole text stands for
 abbrev pub exponent_of : List ℕ → Option ℤ
 exponent_of [] = Some (pos 0)
-exponent_of (letter ∷ text) = if (letter == 101 || letter == 69) && is_short_numeral (without_leading_sign text) then Some (signed_digits_value 10 text) else None
+exponent_of (letter ∷ text) = if is_power_letter letter && is_short_numeral (without_leading_sign text) then Some (with_sign (starts_with_minus text) (digits_value 10 (without_leading_sign text))) else None
 
 -- a text of at most 128 bytes with a digit before or behind the point
 abbrev pub has_digits : List ℕ → List ℕ → List ℕ → Bool
 has_digits text whole fraction = nat_le (length text) 128 && nat_lt 0 (length whole + length fraction)
 
+-- the decimal of a text's parts: its sign, its digits before and behind the point, and what stands behind them
+abbrev pub decimal_of_parts : List ℕ → Bool → List ℕ → List ℕ → List ℕ → Option Decimal
+decimal_of_parts text negative whole fraction power = if has_digits text whole fraction then option_map (λ exponent. record { negative = negative; whole = whole; fraction = fraction; exponent = exponent }) (exponent_of power) else None
+
+-- the decimal of a text without its sign
+abbrev pub decimal_of_unsigned : List ℕ → Bool → List ℕ → Option Decimal
+decimal_of_unsigned text negative unsigned = decimal_of_parts text negative (front_digits unsigned) (fraction_digits (behind_digits unsigned)) (behind_fraction (behind_digits unsigned))
+
 -- the decimal that the text is
 unfoldable pub decimal_of : List ℕ → Option Decimal
-decimal_of text =
-    let unsigned = without_leading_sign text in
-    let whole = front_digits unsigned in
-    let rest = behind_digits unsigned in
-    let fraction = fraction_digits rest in
-    if has_digits text whole fraction then option_map (λ exponent. record { negative = starts_with_minus text; whole = whole; fraction = fraction; exponent = exponent }) (exponent_of (behind_fraction rest)) else None
+decimal_of text = decimal_of_unsigned text (starts_with_minus text) (without_leading_sign text)

@@ -1,5 +1,7 @@
+pub mod Arithmetic
 pub mod Decimal
 pub mod Kinds
+pub mod Parts
+pub mod Printed
 pub mod Reading
 pub mod Rounding
-pub mod Printed

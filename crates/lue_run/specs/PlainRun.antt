@@ -1,0 +1,108 @@
+-- The run of a script, by its text and its files.
+use Rattle.std.specs.Prelude.{List, ℕ, Bool, ◌&&◌, ◌==◌, [], ◌∷◌, ◌+◌, ◌/◌, ◌%◌, Some, None, Ok, Err, Result, if◌then◌else◌}
+use Rattle.std.specs.declared.option.Option.{Option}
+use Rattle.cell_values.specs.declared.cell.Cell.{Cell}
+use Rattle.cell_values.specs.declared.kind.Kind.TheVariants.{Scalar}
+use Rattle.outside_io.specs.Course.{Run, ◌>>=◌, settled, reading, putting}
+use Rattle.script_syntax.specs.declared.tree.Binding.{Binding}
+use Rattle.script_syntax.specs.declared.tree.Script.{Script}
+use Rattle.script_syntax.specs.declared.tree.Statement.{Statement}
+use Rattle.script_syntax.specs.declared.tree.Target.{Target}
+use Rattle.script_syntax.specs.declared.tree.Target.TheVariants.{File}
+use Rattle.script_syntax.specs.Reading.{script_of}
+use Rattle.grid_text.specs.declared.grid.Grid.{Grid}
+use Rattle.grid_text.specs.Plain.{grid_of}
+use Rattle.grid_text.specs.Written.{written_grid}
+use Rattle.lue_run.specs.declared.ended.OverAt.{OverAt}
+use Rattle.lue_run.specs.declared.ended.SessionEnd.{SessionEnd}
+use Rattle.lue_run.specs.declared.ended.SessionEnd.TheVariants.{Missing, TooLong, Unbuilt, Overflow}
+use Rattle.lue_run.specs.declared.ended.Tally.{Tally}
+use Rattle.lue_run.specs.MapSum.{sums_from}
+use Rattle.lue_run.specs.Words.{Command, Plain}
+
+-- the most bytes of a script
+abbrev pub script_limit : ℕ
+script_limit = 1048576
+
+-- the most bytes of any other file
+abbrev pub file_limit : ℕ
+file_limit = 268435456
+
+-- what a file's text stands for, or the end where it stands for nothing that is built
+abbrev pub or_unbuilt : {X : Type 0} → List ℕ → Option X → Result X SessionEnd
+or_unbuilt name (Some x) = Ok x
+or_unbuilt name None = Err (Unbuilt name)
+
+-- ---- the script
+
+-- the files of a sum: those of its two operands, and that of its result
+pub record SumFiles : Type 0 where
+  pub first : List ℕ
+  pub second : List ℕ
+  pub target : List ℕ
+
+-- the file of a binding's target
+abbrev pub file_of : Target → List ℕ
+file_of (File name) = name
+
+-- the files of two bindings and one statement
+abbrev pub files_of : List Binding → List Statement → Option SumFiles
+files_of (a ∷ b ∷ []) (statement ∷ []) = Some (record { first = file_of a.target; second = file_of b.target; target = statement.name })
+files_of bindings statements = None
+
+-- the files of a script that reports the sum of the two maps that it binds, as each script of the pair form does
+abbrev pub sum_files : Script → Option SumFiles
+sum_files script = files_of script.bindings script.initial
+
+-- the script is read, then its text
+abbrev pub script_run : List ℕ → Run Script SessionEnd
+script_run name = do
+  text ← reading Missing TooLong name script_limit
+  settled (or_unbuilt name (script_of text))
+
+-- ---- the grids
+
+-- a grid is read, then its text
+abbrev pub grid_run : List ℕ → Run Grid SessionEnd
+grid_run name = do
+  text ← reading Missing TooLong name file_limit
+  settled (or_unbuilt name (grid_of text))
+
+-- the first place of a map of so many columns whose sum is out of range
+abbrev pub over_at : ℕ → ℕ → OverAt
+over_at cols place = record { step = 0; statement = 1; operation = 1; row = place / cols + 1; col = place % cols + 1 }
+
+-- the map of sums, or the end of a run at the first sum that is out of range
+abbrev pub or_overflow : ℕ → Result (List Cell) ℕ → Result (List Cell) SessionEnd
+or_overflow cols (Ok cells) = Ok cells
+or_overflow cols (Err place) = Err (Overflow (over_at cols place))
+
+-- whether two grids have as many rows and as many columns
+abbrev pub same_size : Grid → Grid → Bool
+same_size a b = (a.rows == b.rows) && (a.cols == b.cols)
+
+-- the sum of two grids, of which the second one has this name; it is to have the first one's size
+unfoldable pub grid_sum : List ℕ → Grid → Grid → Result (List Cell) SessionEnd
+grid_sum name a b = if same_size a b then or_overflow a.cols (sums_from 0 a.cells b.cells) else Err (Unbuilt name)
+
+-- ---- the run
+
+-- two grids are read in order, and their sum is put, with the head of the first
+abbrev pub grids_run : SumFiles → Run Tally SessionEnd
+grids_run files = do
+  first ← grid_run files.first
+  second ← grid_run files.second
+  sum ← settled (grid_sum files.second first second)
+  put ← putting files.target (written_grid Scalar first.rows first.cols first.head sum)
+  settled (Ok (record { files = 1; steps = 0 }))
+
+-- the script of this name is read, and then its sum is run
+abbrev pub sum_run : List ℕ → Run Tally SessionEnd
+sum_run name = do
+  script ← script_run name
+  files ← settled (or_unbuilt name (sum_files script))
+  grids_run files
+
+-- what each command does
+abbrev pub run_of : Command → Run Tally SessionEnd
+run_of (Plain script) = sum_run script

@@ -1,0 +1,21 @@
+-- What the run's own values are.
+use Rattle.std.specs.Prelude.{◌≡◌, ◌⊎◌, ◌*◌, ℕ, List, length}
+use Rattle.grid_text.specs.declared.grid.Grid.{Grid}
+use Rattle.grid_text.specs.Plain.{IsPlainSize}
+use Rattle.lue_run.specs.declared.plain.SumFiles as code
+use Rattle.lue_run.specs.declared.ended.SessionEnd.{SessionEnd}
+use Rattle.lue_run.specs.declared.ended.SessionEnd.TheVariants.{Unbuilt, Memory}
+use Rattle.lue_run.specs.PlainRun.{SumFiles}
+
+-- a grid of a size that is within the limits, with all its cells
+pub record IsSized (grid : Grid) : Type 0 where
+  pub within : IsPlainSize grid.rows grid.cols
+  pub count : length grid.cells ≡ grid.rows * grid.cols
+
+-- the files that these words name
+abbrev pub view : code.SumFiles → SumFiles
+view files = record { first = files.first.now; second = files.second.now; target = files.target.now }
+
+-- the end at this file, which is outside of what is built, or want of memory
+abbrev pub IsUnbuilt : List ℕ → SessionEnd → Type 0
+IsUnbuilt name end = (end ≡ Unbuilt name) ⊎ (end ≡ Memory)

@@ -1,0 +1,192 @@
+ghost use Rattle.std.specs.Prelude.{◌≡◌, ◌<◌, ◌≤◌, length, MatchOption, IfOk, None, Some};
+ghost use Rattle.outside_io.specs.Course.{Meets, Settles, putting};
+ghost use Rattle.lue_run.specs.Ends.{way};
+ghost use Rattle.lue_run.specs.PlainRun.{grid_run, grid_sum, grids_run, over_at, or_unbuilt, script_run, sum_files, sum_run};
+ghost use Rattle.lue_run.specs.Sized.{IsSized, IsUnbuilt, view};
+ghost use Rattle.cell_values.specs.declared.kind.Kind.TheVariants.{Scalar};
+ghost use Rattle.grid_text.specs.Plain.{grid_of};
+ghost use Rattle.grid_text.specs.Written.{written_grid};
+ghost use Rattle.script_syntax.specs.Reading.{script_of};
+
+use crate::ended::{OverAt, SessionEnd, Tally};
+use crate::files::{fetch, store};
+use crate::map_sum::{SumEnd, sum_maps};
+use cell_values::{Cells, Kind, Word};
+use grid_text::{Grid, ReadGrid, read_grid, write_grid};
+use outside_io::Folder;
+use script_syntax::{ReadScript, Script, Target, read_script};
+use std::alloc::Global;
+
+/// The most bytes of a script.
+const SCRIPT_LIMIT: u64 = 1_048_576;
+
+/// The most bytes of any other file.
+const FILE_LIMIT: u64 = 268_435_456;
+
+/// The files of a sum: those of its two operands, and that of its result.
+#[derive(Drop)]
+pub struct SumFiles<'a> {
+    pub first: &'a Word,
+    pub second: &'a Word,
+    pub target: &'a Word,
+}
+
+// The files of a script that reports the sum of the two maps that it binds.
+fn files_of(script: &Script) -> Option<SumFiles<'_>>
+    ensures { MatchOption result (sum_files script.now ≡ None) (λ files. sum_files script.now ≡ Some (view files)) }
+{
+    match (script.bindings.as_slice(), script.initial.as_slice()) {
+        ([a, b], [statement]) => {
+            let Target::File(first) = &a.target;
+            let Target::File(second) = &b.target;
+            Some(SumFiles {
+                first,
+                second,
+                target: &statement.name,
+            })
+        }
+        _ => None,
+    }
+}
+
+// The files of a script by its text.
+fn parse_script(alloc: Global, name: &Word, text: &[u8]) -> Result<Script, SessionEnd>
+    requires { length text.now ≤ 1048576 }
+    ensures { Settles way (or_unbuilt name.now (script_of text.now)) result }
+{
+    match read_script(alloc, text) {
+        Ok(script) => Ok(script),
+        Err(ReadScript::Memory) => Err(SessionEnd::Memory),
+        Err(ReadScript::Unbuilt) => Err(unbuilt(alloc, name)),
+    }
+}
+
+// The end at a file that is outside of what is built.
+fn unbuilt(alloc: Global, name: &Word) -> SessionEnd
+    ensures { IsUnbuilt name.now result }
+{
+    match name.twin(alloc) {
+        Ok(word) => SessionEnd::Unbuilt(word),
+        Err(_) => SessionEnd::Memory,
+    }
+}
+
+// The grid of a text.
+fn parse_grid(alloc: Global, name: &Word, text: &[u8]) -> Result<Grid, SessionEnd>
+    requires { length text.now ≤ 268435456 }
+    ensures settles { Settles way (or_unbuilt name.now (grid_of text.now)) result }
+    ensures sized { IfOk result IsSized }
+{
+    match read_grid(alloc, Kind::Scalar, text) {
+        Ok(grid) => Ok(grid),
+        Err(ReadGrid::Memory) => Err(SessionEnd::Memory),
+        Err(ReadGrid::Unbuilt) => Err(unbuilt(alloc, name)),
+    }
+}
+
+// Reads a grid.
+fn grid_at<F: Folder>(alloc: Global, folder: &mut F, name: &Word) -> Result<Grid, SessionEnd>
+    ensures meets { Meets way (grid_run name.now) (F.state folder.old) (F.state folder.new) result }
+    ensures sized { IfOk result IsSized }
+{
+    let text = fetch(alloc, folder, name, FILE_LIMIT)?;
+    parse_grid(alloc, name, &text)
+}
+
+// Where a map of so many columns has its first sum that is out of range.
+fn over_at(cols: u32, place: usize) -> OverAt
+    requires some { 0 < cols }
+    requires few { place < 4194304 }
+    ensures { result ≡ over_at cols place }
+{
+    OverAt {
+        step: 0,
+        statement: 1,
+        operation: 1,
+        row: place as u32 / cols + 1,
+        col: place as u32 % cols + 1,
+    }
+}
+
+// Puts a sum, with the head of its first operand.
+fn put_grid<F: Folder>(
+    alloc: Global,
+    folder: &mut F,
+    target: &Word,
+    first: &Grid,
+    sum: &Cells,
+) -> Result<(), SessionEnd>
+    requires size { IsSized first.now }
+    requires count { length sum.now ≡ length first.now.cells }
+    ensures { Meets way (putting target.now (written_grid Scalar first.now.rows first.now.cols first.now.head sum.now))
+        (F.state folder.old) (F.state folder.new) result }
+{
+    let cells = sum.as_slice();
+    let Ok(text) = write_grid(
+        alloc,
+        Kind::Scalar,
+        first.rows,
+        first.cols,
+        &first.head,
+        cells,
+    ) else {
+        return Err(SessionEnd::Memory);
+    };
+    store(alloc, folder, target, &text)
+}
+
+// The sum of two grids, of which the second one has this name.
+#[tactic(auto, unfolding(crate::specs::PlainRun::grid_sum))]
+fn sum_grids(alloc: Global, name: &Word, first: &Grid, second: &Grid) -> Result<Cells, SessionEnd>
+    requires first { IsSized first.now }
+    requires second { IsSized second.now }
+    ensures settles { Settles way (grid_sum name.now first.now second.now) result }
+    ensures count { IfOk result (λ cells. length cells ≡ length first.now.cells) }
+{
+    if first.rows != second.rows || first.cols != second.cols {
+        return Err(unbuilt(alloc, name));
+    }
+    match sum_maps(alloc, first.cells.as_slice(), second.cells.as_slice()) {
+        Ok(cells) => Ok(cells),
+        Err(SumEnd::Memory) => Err(SessionEnd::Memory),
+        Err(SumEnd::Over(place)) => Err(SessionEnd::Overflow(over_at(first.cols, place))),
+    }
+}
+
+// Reads two grids, and puts their sum.
+fn put_sum<F: Folder>(
+    alloc: Global,
+    folder: &mut F,
+    files: &SumFiles<'_>,
+) -> Result<Tally, SessionEnd>
+    ensures { Meets way (grids_run (view files.now)) (F.state folder.old) (F.state folder.new) result }
+{
+    let first = grid_at(alloc, folder, files.first)?;
+    let second = grid_at(alloc, folder, files.second)?;
+    let sum = sum_grids(alloc, files.second, &first, &second)?;
+    put_grid(alloc, folder, files.target, &first, &sum)?;
+    Ok(Tally { files: 1, steps: 0 })
+}
+
+// Reads a script.
+fn script_at<F: Folder>(alloc: Global, folder: &mut F, name: &Word) -> Result<Script, SessionEnd>
+    ensures { Meets way (script_run name.now) (F.state folder.old) (F.state folder.new) result }
+{
+    let text = fetch(alloc, folder, name, SCRIPT_LIMIT)?;
+    parse_script(alloc, name, &text)
+}
+
+/// Runs the script of this name.
+pub fn run_script<F: Folder>(
+    alloc: Global,
+    folder: &mut F,
+    name: &Word,
+) -> Result<Tally, SessionEnd>
+    ensures { Meets way (sum_run name.now) (F.state folder.old) (F.state folder.new) result }
+{
+    let script = script_at(alloc, folder, name)?;
+    let Some(files) = files_of(&script) else {
+        return Err(unbuilt(alloc, name));
+    };
+    put_sum(alloc, folder, &files)
+}

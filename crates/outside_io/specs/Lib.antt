@@ -1,0 +1,11 @@
+pub mod State
+pub mod Ends
+pub mod Course
+pub mod Counts
+pub mod FailingCalls
+pub mod CalmFolder
+pub mod MemFolder
+pub mod CalmSink
+pub mod MemSink
+pub mod FileFolder
+pub mod StdSink

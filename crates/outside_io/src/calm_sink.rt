@@ -1,0 +1,44 @@
+ghost use Rattle.std.specs.Prelude.{◌≡◌, ◌≤◌, length, IsOk, MatchResult};
+ghost use Rattle.outside_io.specs.State.{Rose, Wrote, WroteFront};
+ghost use Rattle.outside_io.specs.CalmSink.{calm_state, byte_count, counted};
+
+use crate::{Sink, SinkFailed};
+
+/// A sink that counts the bytes written, keeps none of them and never fails: its count of faults is always 0.
+#[derive(Drop)]
+pub struct CalmSink {
+    count: u64,
+}
+
+impl CalmSink {
+    /// A sink to which nothing was written.
+    pub fn new() -> CalmSink
+        ensures { byte_count result ≡ 0 }
+    {
+        CalmSink { count: 0 }
+    }
+
+    /// How many bytes were written, at most 2^64 - 1.
+    pub fn count(&self) -> u64
+        ensures { result ≡ byte_count self.now }
+    {
+        self.count
+    }
+}
+
+impl Sink for CalmSink {
+    ghost state = { calm_state };
+
+    fn write_all(&mut self, bytes: &[u8]) -> Result<(), SinkFailed>
+        ensures answer { MatchResult result
+            (λ _. Wrote (calm_state self.old) (calm_state self.new) bytes.now)
+            (λ _. Rose (calm_state self.old).faults (calm_state self.new).faults
+            × WroteFront (calm_state self.old) (calm_state self.new) bytes.now) }
+        ensures later { (calm_state self.old).faults ≤ (calm_state self.new).faults }
+        ensures never_fails { IsOk result }
+        ensures count { byte_count self.new ≡ counted (byte_count self.old) (length bytes.now) }
+    {
+        self.count = self.count.saturating_add(bytes.len() as u64);
+        Ok(())
+    }
+}

@@ -1,0 +1,43 @@
+ghost use Rattle.std.specs.Prelude.{◌≡◌, ◌≤◌, MatchResult};
+ghost use Rattle.outside_io.specs.State.{Rose, Wrote, WroteFront};
+ghost use Rattle.outside_io.specs.Counts.{after_write};
+ghost use Rattle.outside_io.specs.StdSink.{std_state};
+
+use crate::{Sink, SinkFailed};
+use std::io;
+use std::io::Write;
+
+/// The standard output of the system. It tells its count of faults and no contents.
+#[derive(Drop)]
+pub struct StdSink<R: Drop> {
+    rt: R,
+    faults: u64,
+}
+
+impl<R: Print + Drop> StdSink<R> {
+    /// The standard output, to which nothing was written by this value.
+    pub fn new(rt: R) -> StdSink<R>
+        ensures { (std_state result).faults ≡ 0 }
+    {
+        StdSink { rt, faults: 0 }
+    }
+}
+
+impl<R: Print + Drop> Sink for StdSink<R> {
+    ghost state = { std_state };
+
+    fn write_all(&mut self, bytes: &[u8]) -> Result<(), SinkFailed>
+        ensures answer { MatchResult result
+            (λ _. Wrote (std_state self.old) (std_state self.new) bytes.now)
+            (λ _. Rose (std_state self.old).faults (std_state self.new).faults
+            × WroteFront (std_state self.old) (std_state self.new) bytes.now) }
+        ensures later { (std_state self.old).faults ≤ (std_state self.new).faults }
+        ensures faults { (std_state self.new).faults ≡ after_write (std_state self.old).faults result }
+    {
+        if io::writer(&self.rt).write_all(bytes).is_err() {
+            self.faults = self.faults.saturating_add(1);
+            return Err(SinkFailed);
+        }
+        Ok(())
+    }
+}

@@ -1,0 +1,4 @@
+pub mod Decimal
+pub mod PairForm
+pub mod Reading
+pub mod Tokens
