@@ -234,7 +234,7 @@ names_is None key e = absurd (cc)
 names_is (Some named) key e = ap (λ (k : Key). Some k) (same_key-true named key e)
 
 -- a value of the key is one that it may have
-value_is : (key : Key) (pairs : List Pair) (p : Pair) (ps : List Pair) → list_all is_pair pairs ≡ true → pairs_of key pairs ≡ p ∷ ps → is_value_of key p.value.bytes ≡ true
+pub value_is : (key : Key) (pairs : List Pair) (p : Pair) (ps : List Pair) → list_all is_pair pairs ≡ true → pairs_of key pairs ≡ p ∷ ps → is_value_of key p.value.bytes ≡ true
 value_is key [] p ps valued e = absurd (cc)
 value_is key (q ∷ qs) p ps valued e =
     let parts = and_parts (is_pair q) (list_all is_pair qs) valued in

@@ -11,3 +11,5 @@ pub mod CellFaults
 pub mod Laws
 pub mod GivenLaws
 pub mod CellLaws
+pub mod ValueLaws
+pub mod ReaderLaws

@@ -1,6 +1,7 @@
 //! The values that the keys of a head may have.
 
 ghost use Rattle.std.specs.Prelude.{◌≡◌, ◌<◌, IfSome};
+ghost use Rattle.std.specs.Str.Parse.{starts_with_minus};
 ghost use Rattle.grid_text.specs.Key.{is_cell_size, is_coordinate, is_nodata, side_of};
 
 use crate::digits::number;
@@ -26,6 +27,13 @@ pub fn is_coordinate(value: &[u8]) -> bool
     value.len() <= MAX_COORDINATE && is_decimal(value)
 }
 
+// Whether a minus stands first.
+fn has_minus(value: &[u8]) -> bool
+    ensures { result ≡ starts_with_minus value.now }
+{
+    !value.is_empty() && value[0] == b'-'
+}
+
 /// Whether the value is the size of a cell: a decimal of at most 64 bytes that is above 0.
 pub fn is_cell_size(value: &[u8]) -> bool
     ensures { result ≡ is_cell_size value.now }
@@ -33,7 +41,7 @@ pub fn is_cell_size(value: &[u8]) -> bool
     if !is_coordinate(value) {
         return false;
     }
-    if value.first() == Some(&b'-') {
+    if has_minus(value) {
         return false;
     }
     !same_decimal(value, b"0")
