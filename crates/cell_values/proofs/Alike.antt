@@ -1,15 +1,14 @@
 -- Two rows of digits with one value, where their first digits stand apart.
-use Rattle.std.proofs.Common.{◌≡◌, ℕ, zero, suc, ◌+◌, ◌-◌, ◌*◌, ◌^◌, ◌<◌, ◌≤◌, ◌⊎◌, Bool, true, false, cond, ◌&&◌, ◌||◌, List, [], ◌∷◌, ◌++◌, length, get_or, replicate, nat_lt, ◌==◌, ℤ, pos, negsuc, neg_ℤ, ◌*ℤ◌, unsigned_abs, Some, refl, sym, ap, ◌∙◌, subst, inl, inr, arith, length-append}
+use Rattle.std.proofs.Common.{◌≡◌, ℕ, zero, suc, ◌+◌, ◌-◌, ◌*◌, ◌^◌, ◌<◌, ◌≤◌, ◌⊎◌, Bool, true, false, ◌&&◌, ◌||◌, List, [], ◌∷◌, ◌++◌, length, get_or, replicate, ◌==◌, pos, neg_ℤ, ◌*ℤ◌, unsigned_abs, Some, refl, sym, ap, ◌∙◌, inl, inr, arith, length-append}
 use Rattle.std.specs.List.{list_all}
 use Rattle.std.specs.Ordering.{int_eq}
 use Rattle.std.proofs.Math.Bool.{beq}
 use Rattle.std.proofs.lemmas.Bool.Decides.{Decides-int_eq}
 use Rattle.std.specs.Char.{digit_value, is_ascii_digit}
-use Rattle.std.specs.Str.Parse.{digits_value, digits_value_after}
-use Rattle.std.proofs.Math.Nat.{mul-le-mul_left, pow-suc}
+use Rattle.std.specs.Str.Parse.{digits_value}
 use Rattle.std.proofs.lemmas.Nat.{pow-add, same_from_place}
 use Rattle.std.proofs.lemmas.Bool.{cases_lt, lt-ltb, le-ltb, eqb-true, eq-eqb}
-use Rattle.std.proofs.lemmas.List.{ext_get_or, get_or_past, get_or-append-add, get_or_append_left, get_or-append_right, get_or-replicate, length-replicate}
+use Rattle.std.proofs.lemmas.List.{ext_get_or, get_or_past, length-replicate}
 use Rattle.cell_values.specs.Decimal.{Decimal, IsDecimal, decimal_of, are_digits, denominator, numerator, raise, size_of, with_sign}
 use Rattle.cell_values.specs.Reading.{HasSameValue, same_value}
 use Rattle.cell_values.specs.Parts.{IsWithin, digit_behind, is_zero}

@@ -1,12 +1,12 @@
 -- What a text is as a decimal, from its parts and back.
-use Rattle.std.proofs.Common.{◌≡◌, ℕ, zero, suc, ◌+◌, ◌-◌, ◌<◌, ◌≤◌, Bool, true, false, cond, ◌&&◌, IsTrue, List, [], ◌∷◌, ◌++◌, length, drop, take, codes, Option, Some, None, option_map, ℤ, pos, refl, sym, ap, ◌∙◌, subst, inl, inr, ◌⊎◌, ◌==◌, nat_lt, nat_le, arith, append_assoc, get_or, take_at, drop_at, ◌||◌, is_some}
+use Rattle.std.proofs.Common.{◌≡◌, ℕ, ◌+◌, ◌<◌, ◌≤◌, Bool, true, false, cond, ◌&&◌, List, [], ◌∷◌, ◌++◌, length, drop, take, codes, Option, Some, None, option_map, ℤ, refl, sym, ap, ◌∙◌, subst, inl, inr, ◌⊎◌, ◌==◌, nat_lt, nat_le, arith, append_assoc, get_or, take_at, drop_at, ◌||◌, is_some}
 use Rattle.std.specs.Char.{is_ascii_digit}
 use Rattle.std.specs.List.{prefix_len}
-use Rattle.std.specs.Str.Parse.{digits_value, starts_with_minus, without_leading_sign, without_leading_plus}
+use Rattle.std.specs.Str.Parse.{digits_value, starts_with_minus, without_leading_sign}
 use Rattle.std.proofs.lemmas.Grind.{common_steps}
 use Rattle.std.proofs.lemmas.Bool.{eqb-true, ltb-true, leb-true, lt-ltb, le-leb}
 use Rattle.std.proofs.lemmas.List.{take-append-drop}
-use Rattle.cell_values.specs.Decimal.{Decimal, IsDecimal, IsDecimalText, IsSign, IsPointed, IsPower, IsExponent, are_digits, with_sign, decimal_of, decimal_of_parts, decimal_of_unsigned, exponent_of, front_digits, behind_digits, fraction_digits, behind_fraction, has_digits, is_power_letter, is_short_numeral}
+use Rattle.cell_values.specs.Decimal.{Decimal, IsDecimal, IsDecimalText, IsSign, IsPointed, IsPower, IsExponent, are_digits, with_sign, decimal_of, decimal_of_parts, exponent_of, front_digits, behind_digits, fraction_digits, behind_fraction, has_digits, is_power_letter, is_short_numeral}
 use Rattle.cell_values.proofs.Digits.{both, digits_at_front}
 
 -- ---- a text by parts that were found in turn

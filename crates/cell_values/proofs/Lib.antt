@@ -3,5 +3,7 @@ pub mod Cuts
 pub mod DecimalLaws
 pub mod Digits
 pub mod Nearest
+pub mod PrintedBack
+pub mod PrintedTokens
 pub mod Readings
 pub mod Trim

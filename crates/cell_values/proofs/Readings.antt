@@ -1,20 +1,19 @@
 -- The value that a kind takes from a decimal.
-use Rattle.std.proofs.Common.{◌≡◌, ℕ, zero, suc, ◌+◌, ◌*◌, ◌/◌, ◌%◌, ◌^◌, ◌<◌, ◌≤◌, ◌⊎◌, Bool, true, false, cond, ◌&&◌, ℤ, pos, negsuc, neg_ℤ, ◌*ℤ◌, unsigned_abs, int_lt, int_le, ◌≤ℤ◌, ◌<ℤ◌, ◌==◌, List, Option, Some, None, Result, Ok, Err, IfOk, refl, sym, ap, ◌∙◌, subst, inl, inr, arith, length}
+use Rattle.std.proofs.Common.{◌≡◌, ℕ, zero, suc, ◌+◌, ◌*◌, ◌/◌, ◌%◌, ◌^◌, ◌<◌, ◌≤◌, ◌⊎◌, Bool, true, false, cond, ◌&&◌, ℤ, pos, negsuc, neg_ℤ, ◌*ℤ◌, unsigned_abs, int_lt, int_le, ◌≤ℤ◌, ◌==◌, List, Option, Some, None, Result, Ok, Err, IfOk, refl, sym, ap, ◌∙◌, subst, inl, inr, arith, length}
 use Rattle.std.proofs.Math.Nat.{mul-le-mul_left, mul-div_left, mul-mod_left}
-use Rattle.std.proofs.lemmas.Grind.{common_steps}
-use Rattle.std.proofs.lemmas.Bool.{cases_lt, leb-true, leb-false, eqb-true, eqb-false, eq-eqb, ne_eqb}
+use Rattle.std.proofs.lemmas.Bool.{cases_lt, leb-true, leb-false, eqb-true, eq-eqb}
 use Rattle.std.proofs.lemmas.Int.{ints}
 use Rattle.cell_values.specs.declared.kind.Kind.{Kind}
 use Rattle.cell_values.specs.declared.kind.Kind.TheVariants.{Boolean, Nominal, Ordinal, Scalar, Directional, Ldd}
 use Rattle.cell_values.specs.declared.cell.Cell.{Cell}
-use Rattle.cell_values.specs.declared.cell.Cell.TheVariants.{Mv, Val}
+use Rattle.cell_values.specs.declared.cell.Cell.TheVariants.{Val}
 use Rattle.cell_values.specs.declared.cell.NumberFault.{NumberFault}
 use Rattle.cell_values.specs.declared.cell.NumberFault.TheVariants.{BadNumber, Range}
 use Rattle.cell_values.specs.declared.cell.Over.{Over}
 use Rattle.cell_values.specs.declared.read.Cut.{Cut}
 use Rattle.cell_values.specs.Kinds.{IsValue, is_value, cell_of, least, greatest}
 use Rattle.cell_values.specs.Rounding.{IsNearest, IsNearestSize, nearest, nearest_size}
-use Rattle.cell_values.specs.Decimal.{Decimal, IsDecimal, IsDecimalText, decimal_of, numerator, denominator, size_of, with_sign, fall}
+use Rattle.cell_values.specs.Decimal.{Decimal, IsDecimal, IsDecimalText, decimal_of, numerator, denominator, with_sign, fall}
 use Rattle.cell_values.specs.Parts.{IsCut, IsBeyond}
 use Rattle.cell_values.specs.Reading.{IsQuotient, IsTaken, HasValue, HasSomeValue, quotient, taken, cell_taken, cell_of_decimal, cell_read}
 use Rattle.cell_values.proofs.DecimalLaws.{decimal-from_text, text-from_decimal}
@@ -82,7 +81,7 @@ unfolding quotient
 quotient-part negative n d part = rw (abs_signed negative n, part) refl
 
 -- ---- what is beyond 64 bits is no value
-small_value : (kind : Kind) (z : ℤ) → IsValue kind z → unsigned_abs z < 2 ^ 64
+pub small_value : (kind : Kind) (z : ℤ) → IsValue kind z → unsigned_abs z < 2 ^ 64
 small_value Boolean (pos n) is = omega (arith, ints, is.greatest)
 small_value Boolean (negsuc n) is = absurd (omega (arith, ints, is.least))
 small_value Nominal (pos n) is = omega (arith, ints, is.greatest)

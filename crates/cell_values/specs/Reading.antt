@@ -1,15 +1,15 @@
 -- The value that a kind takes from a decimal.
-use Rattle.std.specs.Prelude.{◌≡◌, ℕ, ◌/◌, ◌%◌, ℤ, pos, ◌*ℤ◌, unsigned_abs, int_lt, Bool, true, false, ◌==◌, if◌then◌else◌, List, Option, Some, None, Result, Ok, Err, option_and_then}
+use Rattle.std.specs.Prelude.{◌≡◌, ℕ, ◌/◌, ◌%◌, ℤ, pos, ◌*ℤ◌, unsigned_abs, int_lt, Bool, ◌==◌, if◌then◌else◌, List, Option, Some, None, Result, Ok, Err}
 use Rattle.std.specs.Ordering.{int_eq}
 use Rattle.cell_values.specs.declared.kind.Kind.{Kind}
 use Rattle.cell_values.specs.declared.kind.Kind.TheVariants.{Boolean, Nominal, Ordinal, Scalar, Directional, Ldd}
 use Rattle.cell_values.specs.declared.cell.Cell.{Cell}
-use Rattle.cell_values.specs.declared.cell.Cell.TheVariants.{Mv, Val}
+use Rattle.cell_values.specs.declared.cell.Cell.TheVariants.{Val}
 use Rattle.cell_values.specs.declared.cell.NumberFault.{NumberFault}
 use Rattle.cell_values.specs.declared.cell.NumberFault.TheVariants.{BadNumber, Range}
 use Rattle.cell_values.specs.Kinds.{IsValue, is_value}
 use Rattle.cell_values.specs.Rounding.{IsNearest, nearest}
-use Rattle.cell_values.specs.Decimal.{Decimal, IsDecimal, decimal_of, numerator, denominator, with_sign}
+use Rattle.cell_values.specs.Decimal.{Decimal, decimal_of, numerator, denominator, with_sign}
 
 -- z is the whole number n / d itself
 abbrev pub IsQuotient : ℤ → ℕ → ℤ → Type 0

@@ -25,6 +25,6 @@ pub use decimal::{is_decimal, one_decimal};
 pub use kind::Kind;
 pub use print::print_cell;
 pub use range::{fits, to_cell};
-pub use read::{one_cell, read_cell};
+pub use read::{one_cell, printed_reads_back, read_cell};
 pub use same::same_decimal;
 pub use word::Word;

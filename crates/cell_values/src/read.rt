@@ -3,6 +3,8 @@
 ghost use Rattle.std.specs.Prelude.{◌≡◌, ◌↔◌, ◌*◌, ◌/◌, ◌^◌, ◌<◌, ◌≤◌, ℤ, pos, ◌*ℤ◌, unsigned_abs, List, ℕ, IfOk, if◌then◌else◌, ◌+◌, MatchOption, Ok, Some, ◌&&◌, get_or, nat_le};
 ghost use Rattle.cell_values.specs.Decimal.{Decimal, IsDecimal, IsDecimalText, denominator, numerator, size_of, with_sign};
 ghost use Rattle.cell_values.specs.Parts.{IsBeyond, IsCut, decimal_with, row_digits};
+ghost use Rattle.cell_values.specs.Kinds.{IsValue};
+ghost use Rattle.cell_values.specs.Printed.{printed_cell};
 ghost use Rattle.cell_values.specs.Rounding.{nearest};
 ghost use Rattle.cell_values.specs.Reading.{HasSomeValue, HasValue, cell_read, quotient, taken};
 
@@ -139,4 +141,9 @@ pub fn read_cell(kind: Kind, text: &[u8]) -> Result<Cell, NumberFault>
 /// A text has at most one cell of a kind, and `cell_read` finds it.
 pub fn one_cell()
     ensures { (kind : Kind) (text : List ℕ) (z : ℤ) → (cell_read kind text ≡ Ok (Cell.Val z)) ↔ ((d : Decimal) × IsDecimal text d × HasValue kind d z) }
+{}
+
+/// What is printed reads back.
+pub fn printed_reads_back()
+    ensures { (kind : Kind) (z : ℤ) → IsValue kind z → cell_read kind (printed_cell kind (Cell.Val z)) ≡ Ok (Cell.Val z) }
 {}

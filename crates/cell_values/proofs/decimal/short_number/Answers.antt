@@ -1,4 +1,4 @@
-use Rattle.std.proofs.Common.{◌≡◌, ◌<◌, ◌^◌, arith, ◌∙◌}
+use Rattle.std.proofs.Common.{◌<◌, ◌^◌, arith, ◌∙◌}
 use Rattle.std.specs.Str.Parse.{digits_value}
 use Rattle.cell_values.proofs.Digits.{short_below, some_below}
 use Rattle.cell_values.proofs.decimal.short_number.Goals as goal

@@ -1,5 +1,4 @@
-use Rattle.std.proofs.Common.{◌≡◌, ◌≤◌, ◌^◌, arith}
-use Rattle.std.specs.Str.Parse.{digits_value_after}
+use Rattle.std.proofs.Common.{◌^◌}
 use Rattle.cell_values.proofs.Digits.{too_many}
 use Rattle.cell_values.proofs.digit_row.number_after.Goals as goal
 

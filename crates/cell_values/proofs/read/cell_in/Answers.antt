@@ -1,4 +1,4 @@
-use Rattle.std.proofs.Common.{◌≡◌, Ok, Err, ap, sym, ◌∙◌, rules, FitsSigned}
+use Rattle.std.proofs.Common.{ap, sym, ◌∙◌, rules, FitsSigned}
 use Rattle.std.proofs.lemmas.Int.{to_z-of_z}
 use mir.Syntax.{w128}
 use Rattle.cell_values.specs.Decimal.{numerator, denominator}

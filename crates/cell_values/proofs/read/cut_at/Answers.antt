@@ -1,7 +1,7 @@
-use Rattle.std.proofs.Common.{◌≡◌, ◌≤◌, ◌+◌, ◌-◌, ◌*◌, ◌/◌, ◌^◌, ◌++◌, ◌&&◌, length, take, drop, get_or, true, nat_le, ap, sym, ◌∙◌, arith, rules, IsTrue}
+use Rattle.std.proofs.Common.{◌≡◌, ◌+◌, ◌-◌, ◌*◌, ◌^◌, ◌++◌, ◌&&◌, length, take, drop, get_or, nat_le, ap, ◌∙◌, arith}
 use Rattle.std.specs.List.{list_all}
 use Rattle.std.specs.Str.Parse.{digits_value}
-use Rattle.cell_values.specs.Decimal.{are_digits, size_of, denominator, with_sign, raise, fall}
+use Rattle.cell_values.specs.Decimal.{size_of, denominator, with_sign, raise, fall}
 use Rattle.cell_values.specs.Parts.{is_zero, row_digits}
 use Rattle.cell_values.proofs.Digits.{are_digits-append}
 use Rattle.cell_values.proofs.Cuts.{cut_is, quotient_is, zeros-ge}

@@ -1,4 +1,4 @@
-use Rattle.std.proofs.Common.{◌≡◌, ◌≤◌, ◌*◌, ◌^◌, ap, sym, ◌∙◌, arith, rules, unsigned_abs, FitsSigned}
+use Rattle.std.proofs.Common.{◌*◌, ap, sym, ◌∙◌, arith, rules, unsigned_abs, FitsSigned}
 use Rattle.std.proofs.lemmas.Int.{to_z-of_z}
 use mir.Syntax.{w128}
 use Rattle.cell_values.specs.Decimal.{numerator, denominator, size_of, with_sign}

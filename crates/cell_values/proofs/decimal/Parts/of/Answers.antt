@@ -1,5 +1,5 @@
-use Rattle.std.proofs.Common.{◌≡◌, false, true, None, Some, rules, ◌∙◌}
-use Rattle.cell_values.specs.Decimal.{has_digits, exponent_of, with_sign}
+use Rattle.std.proofs.Common.{◌≡◌, false, true, rules, ◌∙◌}
+use Rattle.cell_values.specs.Decimal.{has_digits, with_sign}
 use Rattle.cell_values.proofs.DecimalLaws.{decimal_of_is, no_digits, no_power, all_parts}
 use Rattle.cell_values.proofs.decimal.Parts.of.Goals as goal
 

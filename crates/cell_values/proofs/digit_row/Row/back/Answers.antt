@@ -1,4 +1,3 @@
-use Rattle.std.proofs.Common.{◌≡◌, ◌-◌, ◌++◌, length, drop}
 use Rattle.cell_values.proofs.Digits.{drop-append}
 use Rattle.cell_values.proofs.digit_row.Row.back.Goals as goal
 

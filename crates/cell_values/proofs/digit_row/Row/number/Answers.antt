@@ -1,4 +1,4 @@
-use Rattle.std.proofs.Common.{◌≡◌, ◌≤◌, ◌++◌, arith, ap, sym, ◌∙◌}
+use Rattle.std.proofs.Common.{◌≡◌, ◌++◌, arith, ap, sym, ◌∙◌}
 use Rattle.std.specs.Str.Parse.{digits_value, digits_value_after}
 use Rattle.cell_values.proofs.Digits.{value_after-append, value_after-ge}
 use Rattle.cell_values.proofs.digit_row.Row.number.Goals as goal
