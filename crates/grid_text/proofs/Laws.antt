@@ -24,7 +24,7 @@ use Rattle.grid_text.proofs.HeadFaults.{Apart, Keyed, FailsAt, fails_at, head_fi
 use Rattle.grid_text.proofs.CellFaults.{cells_are, cells_run, cells_fail, cells_right, cells_first}
 
 -- pairs with values that their keys may have begin with key words
-keyed_of : (pairs : List Pair) → list_all is_pair pairs ≡ true → Keyed pairs
+pub keyed_of : (pairs : List Pair) → list_all is_pair pairs ≡ true → Keyed pairs
 keyed_of [] e = refl
 keyed_of (p ∷ ps) e =
     let parts = and_parts (is_pair p) (list_all is_pair ps) e in
@@ -118,7 +118,7 @@ front_least kind text pairs rest f e bad =
     other_is g (InHead more left begins fault) = (read_lacks (length text) [] (tokens text) pairs rest more left g e begins.parts begins.keyed fault).is
     other_is g (InCells others cells rows cols head nodata begins ended h fault) =
         let run : pairs_from (length text) [] (tokens text) ≡ Ok (others, cells) = ap (pairs_from (length text) []) begins.parts ∙ pairs_run (length text) [] others cells rows cols head nodata h ended in
-        let same : (others, cells) ≡ (pairs, rest) = ok_is _ _ (sym run ∙ e) in
+        let same : ◌≡◌ {A = List Pair × List Token} (others, cells) (pairs, rest) = ok_is _ _ (sym run ∙ e) in
         let front : front_of (fault_at kinds.Head (place_of (length text) rest)) pairs ≡ Ok (record { rows = rows; cols = cols; head = head; nodata = nodata }) =
             ap (front_of (fault_at kinds.Head (place_of (length text) rest))) (ap (λ (x : List Pair × List Token). x.0) (sym same)) ∙ front_is (fault_at kinds.Head (place_of (length text) rest)) others rows cols head nodata h in
         absurd (cc)

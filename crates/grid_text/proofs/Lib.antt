@@ -13,3 +13,4 @@ pub mod GivenLaws
 pub mod CellLaws
 pub mod ValueLaws
 pub mod ReaderLaws
+pub mod BackLaws

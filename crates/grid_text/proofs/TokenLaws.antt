@@ -7,7 +7,7 @@ use Rattle.grid_text.specs.Tokens.{Token, is_blank, ends_token, joined, tokens_f
 use Rattle.grid_text.specs.Steps.{is_token_byte, IsEmptyOrToken, tokens_left}
 
 -- a blank in front changes nothing but the place
-blank_front : (at b : ℕ) (bytes : List ℕ) → is_blank b ≡ true → tokens_from at (b ∷ bytes) ≡ tokens_from (at + 1) bytes
+pub blank_front : (at b : ℕ) (bytes : List ℕ) → is_blank b ≡ true → tokens_from at (b ∷ bytes) ≡ tokens_from (at + 1) bytes
 blank_front at b bytes h = ap (λ t. cond t (tokens_from (at + 1) bytes) (joined at b (ends_token bytes) (tokens_from (at + 1) bytes))) h
 
 pub left_blank : (text_len b : ℕ) (bytes : List ℕ) → is_blank b ≡ true → suc (length bytes) ≤ text_len → tokens_left text_len bytes ≡ tokens_left text_len (b ∷ bytes)

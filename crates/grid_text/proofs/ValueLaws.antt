@@ -1,15 +1,15 @@
 -- Decimals as values of a head and as cells.
-use Rattle.std.proofs.Common.{◌≡◌, ℕ, zero, suc, ◌+◌, ◌*◌, ◌≤◌, ◌<◌, ◌/◌, ◌%◌, ◌⊎◌, inl, inr, Bool, true, false, ◌&&◌, ◌||◌, not, cond, eqb, List, [], ◌∷◌, ◌++◌, length, Some, None, ℤ, pos, negsuc, neg_ℤ, Result, Ok, Err, refl, sym, ap, subst, ◌∙◌, le_antisymm, le_of_mul-le-mul_right, le_of_eq, mul-div_cancel, mul_comm, mul_assoc, add-mul, mul_right_comm, mul-one, zero-mul, arith}
+use Rattle.std.proofs.Common.{◌≡◌, ℕ, zero, suc, ◌+◌, ◌*◌, ◌≤◌, ◌<◌, ◌/◌, ◌%◌, ◌⊎◌, inl, inr, Bool, true, false, ◌&&◌, ◌||◌, not, cond, eqb, List, [], ◌∷◌, ◌++◌, length, Some, None, ℤ, pos, negsuc, neg_ℤ, Result, Ok, Err, refl, sym, ap, subst, ◌∙◌, le_antisymm, le_of_mul-le-mul_right, le_of_eq, mul-div_cancel, mul_comm, mul_assoc, add-mul, mul_right_comm, mul-one, zero-mul, lit<, arith}
 use Rattle.std.specs.Prelude.{is_some, nat_lt, nat_le, int_lt, ◌*ℤ◌, unsigned_abs, ◌==◌, codes}
 use Rattle.std.specs.declared.option.Option.{Option}
 use Rattle.std.specs.Option.{option_map, IsSome}
 use Rattle.std.specs.Ordering.{int_eq}
-use Rattle.std.specs.Char.{to_ascii_lowercase}
+use Rattle.std.specs.Char.{to_ascii_lowercase, is_ascii_digit}
 use Rattle.std.specs.Str.{bytes_eq, str_to_ascii_lowercase}
 use Rattle.std.specs.Str.Parse.{starts_with_minus, without_leading_sign}
 use Rattle.std.proofs.Math.Bool.{beq}
 use Rattle.std.proofs.Math.Nat.{div-div-eq-div-mul, div-eq_of_lt, mul-mod_left}
-use Rattle.std.proofs.lemmas.Bool.{eqb-true, eqb-false, eq-eqb, ne_eqb, and_parts, and_right, false_from_ne_true, or_cases, or_parts, ltb-true, ltb-false, lt-ltb, le-ltb, cases_lt}
+use Rattle.std.proofs.lemmas.Bool.{eqb-true, eqb-false, eq-eqb, ne_eqb, and_parts, and_right, false_from_ne_true, or_cases, or_parts, ltb-true, ltb-false, lt-ltb, le-ltb, lt-leb, cases_lt}
 use Rattle.std.proofs.lemmas.Bool.Decides.{Decides-int_eq}
 use Rattle.std.proofs.lemmas.Int.{ints}
 use Rattle.std.proofs.lemmas.Slice.Eq.{bytes_eq-Decides}
@@ -119,32 +119,33 @@ same_read kind x y h =
 
 -- ---- nan is no decimal
 
-lower_n : (b : ℕ) → to_ascii_lowercase b ≡ 110 → (b ≡ 110) ⊎ (b ≡ 78)
-lower_n b e = bool_cases (nat_lt b 65)
-    (λ low. let is : b ≡ 110 = sym (ap (λ t. cond t b (cond (nat_lt b 91) (b + 32) b)) low) ∙ e in inl is)
-    (λ high. let then : cond (nat_lt b 91) (b + 32) b ≡ 110 = sym (ap (λ t. cond t b (cond (nat_lt b 91) (b + 32) b)) high) ∙ e in
-        bool_cases (nat_lt b 91)
-        (λ upper. let is : b + 32 ≡ 110 = sym (ap (λ t. cond t (b + 32) b) upper) ∙ then in inr (omega arith))
-        (λ other. inl (sym (ap (λ t. cond t (b + 32) b) other) ∙ then)))
+-- a byte that is a letter in lower case is one
+lower_letter : (b k : ℕ) → to_ascii_lowercase b ≡ k → 64 < k → 64 < b
+lower_letter b k e above = bool_cases (nat_lt b 65)
+    (λ low. let is : b ≡ k = sym (ap (λ t. cond t b (cond (nat_lt b 91) (b + 32) b)) low) ∙ e in absurd (omega (arith, is, above, ltb-true b 65 low)))
+    (λ high. omega (arith, ltb-false b 65 high))
 
--- a text that begins with an N is no decimal
-low_none : (rest : List ℕ) → decimal_of (110 ∷ rest) ≡ None
+digit_below : (b : ℕ) → 64 < b → is_ascii_digit b ≡ false
+digit_below b above = and_right (nat_le 48 b) (nat_le b 57) (lt-leb b 57 (omega (arith, above)))
+
+-- a text that begins with a letter is no decimal
+letter_none : (b : ℕ) (rest : List ℕ) → 64 < b → decimal_of (b ∷ rest) ≡ None
 unfolding decimal_of
-low_none rest = sym (no_digits (110 ∷ rest) [] [] (110 ∷ rest) false (and_right (nat_le (length (110 ∷ rest)) 128) false refl))
+letter_none b rest above =
+    let minus : eqb b 45 ≡ false = ne_eqb b 45 (λ e. omega (arith, e, above)) in
+    let plus : eqb b 43 ≡ false = ne_eqb b 43 (λ e. omega (arith, e, above)) in
+    let point : eqb b 46 ≡ false = ne_eqb b 46 (λ e. omega (arith, e, above)) in
+    rw (minus, plus, digit_below b above, point) (sym (no_digits (b ∷ rest) [] [] (b ∷ rest) false (and_right (nat_le (length (b ∷ rest)) 128) false refl)))
 
-high_none : (rest : List ℕ) → decimal_of (78 ∷ rest) ≡ None
-unfolding decimal_of
-high_none rest = sym (no_digits (78 ∷ rest) [] [] (78 ∷ rest) false (and_right (nat_le (length (78 ∷ rest)) 128) false refl))
-
-n_none : (b : ℕ) (rest : List ℕ) → (b ≡ 110) ⊎ (b ≡ 78) → decimal_of (b ∷ rest) ≡ None
-n_none b rest (inl is) = ap (λ k. decimal_of (k ∷ rest)) is ∙ low_none rest
-n_none b rest (inr is) = ap (λ k. decimal_of (k ∷ rest)) is ∙ high_none rest
+-- nor is a text that is a word in any case of its letters
+pub word_none : (c : ℕ) (cs text : List ℕ) → 64 < to_ascii_lowercase c → is_word (c ∷ cs) text ≡ true → decimal_of text ≡ None
+word_none c cs [] letter e = absurd (cc)
+word_none c cs (b ∷ rest) letter e =
+    let same : to_ascii_lowercase b ∷ str_to_ascii_lowercase rest ≡ to_ascii_lowercase c ∷ str_to_ascii_lowercase cs = (bytes_eq-Decides (str_to_ascii_lowercase (b ∷ rest)) (str_to_ascii_lowercase (c ∷ cs))).0 e in
+    letter_none b rest (lower_letter b (to_ascii_lowercase c) (head_is _ _ _ _ same) letter)
 
 pub nan_none : (text : List ℕ) → is_nan text ≡ true → decimal_of text ≡ None
-nan_none [] e = absurd (cc)
-nan_none (b ∷ rest) e =
-    let same : to_ascii_lowercase b ∷ str_to_ascii_lowercase rest ≡ codes "nan" = (bytes_eq-Decides (str_to_ascii_lowercase (b ∷ rest)) (codes "nan")).0 e in
-    n_none b rest (lower_n b (head_is _ _ _ _ same))
+nan_none text e = word_none 110 (97 ∷ 110 ∷ []) text (lit< tt) e
 
 -- ---- missing cells
 
