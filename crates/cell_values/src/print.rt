@@ -85,3 +85,40 @@ pub fn print_cell(
         }
     }
 }
+
+#[cfg(test)]
+mod tests {
+    use super::*;
+    use std::test::Fail;
+
+    #[test]
+    fn prints_each_kind(rt: HostRuntime) -> Result<(), Fail> {
+        for (kind, cell, text) in [
+            (Kind::Boolean, Cell::Val(1), "1"),
+            (Kind::Nominal, Cell::Val(-2_147_483_647), "-2147483647"),
+            (Kind::Ordinal, Cell::Val(0), "0"),
+            (Kind::Ldd, Cell::Val(9), "9"),
+            (Kind::Ldd, Cell::Mv, "1e31"),
+            (Kind::Scalar, Cell::Mv, "1e31"),
+            (Kind::Scalar, Cell::Val(0), "0"),
+            (Kind::Scalar, Cell::Val(100_000_000), "100"),
+            (Kind::Scalar, Cell::Val(3_500_000), "3.5"),
+            (Kind::Scalar, Cell::Val(-500_000), "-0.5"),
+            (Kind::Scalar, Cell::Val(-1), "-0.000001"),
+            (Kind::Scalar, Cell::Val(1_020_300), "1.0203"),
+            (
+                Kind::Scalar,
+                Cell::Val(9_000_000_000_000_000_000),
+                "9000000000000",
+            ),
+            (Kind::Directional, Cell::Val(359_999_999), "359.999999"),
+        ] {
+            let mut out = Vec::from_slice(rt.alloc(), b"> ")?;
+            print_cell(kind, cell, rt.alloc(), &mut out)?;
+            let (front, printed) = out.as_slice().split_at(2.min(out.len()));
+            assert_eq!(rt; front, b"> ".as_slice());
+            assert_eq!(rt; printed, text.as_bytes(), "for {text}");
+        }
+        Ok(())
+    }
+}

@@ -55,8 +55,9 @@ fn put_row(kind: Kind, row: &[Cell], alloc: Global, out: &mut Vec<u8>) -> Result
     Ok(())
 }
 
-/// The one text of a grid, an ESRI ASCII grid: six lines of a key word and its value, and then one line for each row.
-/// The words of the head are written as they are, and a missing value as `1e31`.
+/// The one text of a grid, an ESRI ASCII grid: six lines of a key word and its value, and then one
+/// line for each row of cells, which come row by row from the north. The words of the head are
+/// written as they are, and a missing value as `1e31`.
 #[tactic(auto, unfolding(crate::specs::Written::written_grid))]
 pub fn write_grid(
     alloc: Global,
@@ -86,5 +87,4 @@ pub fn write_grid(
 /// A written text is read back as exactly the values that were written, and as no others.
 pub fn written_grids_read_back()
     ensures { WrittenGridsReadBack }
-{
-}
+{}
