@@ -176,11 +176,11 @@ named_pairs : (key : Key) (pairs : List Pair) → map (λ (p : Pair). (p.word.by
 named_pairs key [] = refl
 named_pairs key (p ∷ ps) = bool_cases (is_pair_of key p)
     (λ own. ap (λ b. map (λ (q : Pair). (q.word.bytes, q.value.bytes)) (cond b (p ∷ pairs_of key ps) (pairs_of key ps))) own
-        ∙ ap (λ kvs. (p.word.bytes, p.value.bytes) ∷ kvs) (named_pairs key ps)
-        ∙ sym (ap (λ b. cond b ((p.word.bytes, p.value.bytes) ∷ named key (map (λ (q : Pair). (q.word.bytes, q.value.bytes)) ps)) (named key (map (λ (q : Pair). (q.word.bytes, q.value.bytes)) ps))) own))
+    ∙ ap (λ kvs. (p.word.bytes, p.value.bytes) ∷ kvs) (named_pairs key ps)
+    ∙ sym (ap (λ b. cond b ((p.word.bytes, p.value.bytes) ∷ named key (map (λ (q : Pair). (q.word.bytes, q.value.bytes)) ps)) (named key (map (λ (q : Pair). (q.word.bytes, q.value.bytes)) ps))) own))
     (λ other. ap (λ b. map (λ (q : Pair). (q.word.bytes, q.value.bytes)) (cond b (p ∷ pairs_of key ps) (pairs_of key ps))) other
-        ∙ named_pairs key ps
-        ∙ sym (ap (λ b. cond b ((p.word.bytes, p.value.bytes) ∷ named key (map (λ (q : Pair). (q.word.bytes, q.value.bytes)) ps)) (named key (map (λ (q : Pair). (q.word.bytes, q.value.bytes)) ps))) other))
+    ∙ named_pairs key ps
+    ∙ sym (ap (λ b. cond b ((p.word.bytes, p.value.bytes) ∷ named key (map (λ (q : Pair). (q.word.bytes, q.value.bytes)) ps)) (named key (map (λ (q : Pair). (q.word.bytes, q.value.bytes)) ps))) other))
 
 map_map : {A B C : Type 0} (f : A → B) (g : B → C) (xs : List A) → map (λ x. g (f x)) xs ≡ map g (map f xs)
 map_map f g [] = refl
@@ -274,9 +274,9 @@ value_there kind z is =
     (option_cases (decimal_of (printed_cell kind (Val z)))
     (λ none. ap (λ o. both_decimals (decimal_of (codes "1e31")) o) none ∙ ap (λ o. both_decimals o None) decimal-missing)
     (λ d found. ap (λ o. both_decimals (decimal_of (codes "1e31")) o) found ∙ ap (λ o. both_decimals o (Some d)) decimal-missing
-        ∙ false_from_ne_true (same_value missing_decimal d) (λ e.
-            let turned : same_value d missing_decimal ≡ true = (same_value-means d missing_decimal).1 (sym ((same_value-means missing_decimal d).0 e)) in
-            let apart : same_value d missing_decimal ≡ false = printed-not_missing kind z d is found in absurd (cc))))
+    ∙ false_from_ne_true (same_value missing_decimal d) (λ e.
+    let turned : same_value d missing_decimal ≡ true = (same_value-means d missing_decimal).1 (sym ((same_value-means missing_decimal d).0 e)) in
+    let apart : same_value d missing_decimal ≡ false = printed-not_missing kind z d is found in absurd (cc))))
     refl
 
 cell_back : (kind : Kind) (cell : Cell) → IsCell kind cell → cell_of kind (codes "1e31") (printed_cell kind cell) ≡ Ok cell
@@ -301,12 +301,13 @@ no_word c cs text d letter = false_from_ne_true (is_word (c ∷ cs) text) (λ e.
 key_none : (word : List ℕ) → IsDecimalText word → key_of word ≡ None
 unfolding key_of
 key_none word d = rw (
-    no_word 110 (99 ∷ 111 ∷ 108 ∷ 115 ∷ []) word d (lit< tt),
-    no_word 110 (114 ∷ 111 ∷ 119 ∷ 115 ∷ []) word d (lit< tt),
-    or_from _ _ (no_word 120 (108 ∷ 108 ∷ 99 ∷ 111 ∷ 114 ∷ 110 ∷ 101 ∷ 114 ∷ []) word d (lit< tt)) (no_word 120 (108 ∷ 108 ∷ 99 ∷ 101 ∷ 110 ∷ 116 ∷ 101 ∷ 114 ∷ []) word d (lit< tt)),
-    or_from _ _ (no_word 121 (108 ∷ 108 ∷ 99 ∷ 111 ∷ 114 ∷ 110 ∷ 101 ∷ 114 ∷ []) word d (lit< tt)) (no_word 121 (108 ∷ 108 ∷ 99 ∷ 101 ∷ 110 ∷ 116 ∷ 101 ∷ 114 ∷ []) word d (lit< tt)),
-    no_word 99 (101 ∷ 108 ∷ 108 ∷ 115 ∷ 105 ∷ 122 ∷ 101 ∷ []) word d (lit< tt),
-    no_word 78 (79 ∷ 68 ∷ 65 ∷ 84 ∷ 65 ∷ 95 ∷ 118 ∷ 97 ∷ 108 ∷ 117 ∷ 101 ∷ []) word d (lit< tt)) refl
+  no_word 110 (99 ∷ 111 ∷ 108 ∷ 115 ∷ []) word d (lit< tt),
+  no_word 110 (114 ∷ 111 ∷ 119 ∷ 115 ∷ []) word d (lit< tt),
+  or_from _ _ (no_word 120 (108 ∷ 108 ∷ 99 ∷ 111 ∷ 114 ∷ 110 ∷ 101 ∷ 114 ∷ []) word d (lit< tt)) (no_word 120 (108 ∷ 108 ∷ 99 ∷ 101 ∷ 110 ∷ 116 ∷ 101 ∷ 114 ∷ []) word d (lit< tt)),
+  or_from _ _ (no_word 121 (108 ∷ 108 ∷ 99 ∷ 111 ∷ 114 ∷ 110 ∷ 101 ∷ 114 ∷ []) word d (lit< tt)) (no_word 121 (108 ∷ 108 ∷ 99 ∷ 101 ∷ 110 ∷ 116 ∷ 101 ∷ 114 ∷ []) word d (lit< tt)),
+  no_word 99 (101 ∷ 108 ∷ 108 ∷ 115 ∷ 105 ∷ 122 ∷ 101 ∷ []) word d (lit< tt),
+  no_word 78 (79 ∷ 68 ∷ 65 ∷ 84 ∷ 65 ∷ 95 ∷ 118 ∷ 97 ∷ 108 ∷ 117 ∷ 101 ∷ []) word d (lit< tt),
+) refl
 
 cells_end : (kind : Kind) (cells : List Cell) (ts : List Token) → All (IsCell kind) cells → map (λ (t : Token). t.bytes) ts ≡ map (printed_cell kind) cells → ends_pairs ts ≡ true
 cells_end kind [] [] are e = refl

@@ -21,7 +21,6 @@ told_ok at (Err numbers.BadNumber) cell e = absurd (cc)
 told_ok at (Err numbers.Range) cell e = absurd (cc)
 
 module _ (kind : Kind) (nodata : List ℕ) (text_len : ℕ) where
-
   -- ---- the cells
 
   pub cells_are : (count : ℕ) (tokens : List Token) (cells : List Cell) → cells_from kind nodata text_len count tokens ≡ Ok cells → (map (λ (token : Token). cell_of kind nodata token.bytes) tokens ≡ map (λ (c : Cell). Ok c) cells) × (length cells ≡ count)
@@ -162,9 +161,9 @@ module _ (kind : Kind) (nodata : List ℕ) (text_len : ℕ) where
   cells_first from (suc n) (t ∷ ts) f g order e fault =
       bind_fails (told_at t.at (cell_of kind nodata t.bytes)) _ f e
       (λ here. here_apart (suc n) t ts f g order.1 (told_place t.at (cell_of kind nodata t.bytes) f here)
-          (λ some is at. sym (err_is _ _ (sym (ap (told_at t.at) is) ∙ here)) ∙ sym at)
-          (λ some is at. sym (err_is _ _ (sym (ap (told_at t.at) is) ∙ here)) ∙ sym at)
-          (λ none at. absurd (omega arith)) fault)
+      (λ some is at. sym (err_is _ _ (sym (ap (told_at t.at) is) ∙ here)) ∙ sym at)
+      (λ some is at. sym (err_is _ _ (sym (ap (told_at t.at) is) ∙ here)) ∙ sym at)
+      (λ none at. absurd (omega arith)) fault)
       (λ cell here e1. bind_fails (cells_from kind nodata text_len n ts) _ f e1
       (λ there. cells_first (t.at + 1) n ts f g order.1 there (fault_unshift n t ts cell g (told_ok t.at (cell_of kind nodata t.bytes) cell here) fault))
       (λ more there e2. absurd (cc)))

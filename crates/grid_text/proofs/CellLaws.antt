@@ -25,7 +25,6 @@ none_left : (count i : ℕ) → count ≤ i → count - i ≡ 0
 none_left count i le = omega arith
 
 module _ (kind : Kind) (nodata : List ℕ) (text_len : ℕ) (front : List Cell) (count i : ℕ) (words : List Token) (total : Result (List Cell) GridFault) (so_far : before front (cells_from kind nodata text_len (count - i) words) ≡ total) where
-
   -- what is left to read
   so_far_at : (n : ℕ) (ts : List Token) → count - i ≡ n → words ≡ ts → before front (cells_from kind nodata text_len n ts) ≡ total
   so_far_at n ts many are = sym (ap (λ k. before front (cells_from kind nodata text_len k words)) many ∙ ap (λ us. before front (cells_from kind nodata text_len n us)) are) ∙ so_far

@@ -98,7 +98,6 @@ good_given true a b e = some_is _ _ e
 good_given false a b e = absurd (cc)
 
 module _ (pairs : List Pair) (p : Pair) (key : Key) (is : key_of p.word.bytes ≡ Some key) where
-
   -- the pairs of this key, and of another
   own : pairs_of key pairs ≡ [] → pairs_of key (pairs ++ p ∷ []) ≡ p ∷ []
   own new = pairs_of-push_same key pairs p is ∙ ap (λ ps. ps ++ p ∷ []) new

@@ -26,7 +26,6 @@ abbrev pub Keyed : List Pair → Type 0
 Keyed pairs = list_all (λ (pair : Pair). is_some (key_of pair.word.bytes)) pairs ≡ true
 
 module _ (text_len : ℕ) where
-
   -- ---- what a fault is, by where it stands
 
   -- a fault behind pairs stands behind them
@@ -105,8 +104,9 @@ module _ (text_len : ℕ) where
   not_taken : (before : List Pair) (word value : Token) (more : List Token) (key : Key) → key_of word.bytes ≡ Some key → is_taken key value.bytes before ≡ false → HeadFault text_len before (word ∷ value ∷ more) (fault_at kinds.Head value.at)
   not_taken before word value more key is bad =
       elim (and_cases (is_value_of key value.bytes) (not (is_too_large key value.bytes before)) bad) [
-        inl no_value ↦ NoValue word value more key refl is no_value refl
-      | inr large ↦ TooLarge word value more key refl is (not-false _ large) refl ]
+        | inl no_value ↦ NoValue word value more key refl is no_value refl
+        | inr large ↦ TooLarge word value more key refl is (not-false _ large) refl
+      ]
 
   pub fails_at : (before : List Pair) (tokens : List Token) (f : GridFault) → pairs_from text_len before tokens ≡ Err f → FailsAt before tokens f
   unfolding pairs_from
@@ -115,23 +115,23 @@ module _ (text_len : ℕ) where
       option_cases (key_of word.bytes)
       (λ none. let bad = sym (ap (word_alone text_len before word) none) ∙ e in absurd (cc))
       (λ key is. let told : fault_at kinds.Head (cond (is_filled (pairs_of key before)) word.at text_len) ≡ f = err_is _ _ (sym (ap (word_alone text_len before word) is) ∙ e) in
-          fails_here before (word ∷ []) f (bool_cases (is_filled (pairs_of key before))
-          (λ again. Again word [] key refl is (filled_or_not _ again) (sym told ∙ ap (λ b. fault_at kinds.Head (cond b word.at text_len)) again))
-          (λ new. Alone word key refl is (sym told ∙ ap (λ b. fault_at kinds.Head (cond b word.at text_len)) new))))
+      fails_here before (word ∷ []) f (bool_cases (is_filled (pairs_of key before))
+      (λ again. Again word [] key refl is (filled_or_not _ again) (sym told ∙ ap (λ b. fault_at kinds.Head (cond b word.at text_len)) again))
+      (λ new. Alone word key refl is (sym told ∙ ap (λ b. fault_at kinds.Head (cond b word.at text_len)) new))))
   fails_at before (word ∷ value ∷ more) f e =
       let p : Pair = record { word = word; value = value } in
       let next : Result (List Pair × List Token) GridFault = pairs_from text_len (before ++ p ∷ []) more in
       option_cases (key_of word.bytes)
       (λ none. let bad = sym (ap (λ o. pair_taken before word value more o next) none) ∙ e in absurd (cc))
       (λ key is. let told : pair_taken before word value more (Some key) next ≡ Err f = sym (ap (λ o. pair_taken before word value more o next) is) ∙ e in
-          bool_cases (is_filled (pairs_of key before))
-          (λ again. let here : fault_at kinds.Head word.at ≡ f = err_is _ _ (sym (ap (λ b. cond b (Err (fault_at kinds.Head word.at)) (cond (is_taken key value.bytes before) next (Err (fault_at kinds.Head value.at)))) again) ∙ told) in
-              fails_here before (word ∷ value ∷ more) f (Again word (value ∷ more) key refl is (filled_or_not _ again) (sym here)))
-          (λ new. let told2 : cond (is_taken key value.bytes before) next (Err (fault_at kinds.Head value.at)) ≡ Err f = sym (ap (λ b. cond b (Err (fault_at kinds.Head word.at)) (cond (is_taken key value.bytes before) next (Err (fault_at kinds.Head value.at)))) new) ∙ told in
-              bool_cases (is_taken key value.bytes before)
-              (λ taken. fails_behind before p key more f is (fails_at (before ++ p ∷ []) more f (sym (ap (λ b. cond b next (Err (fault_at kinds.Head value.at))) taken) ∙ told2)))
-              (λ bad. let here : fault_at kinds.Head value.at ≡ f = err_is _ _ (sym (ap (λ b. cond b next (Err (fault_at kinds.Head value.at))) bad) ∙ told2) in
-                  fails_here before (word ∷ value ∷ more) f (subst (HeadFault text_len before (word ∷ value ∷ more)) here (not_taken before word value more key is bad)))))
+      bool_cases (is_filled (pairs_of key before))
+      (λ again. let here : fault_at kinds.Head word.at ≡ f = err_is _ _ (sym (ap (λ b. cond b (Err (fault_at kinds.Head word.at)) (cond (is_taken key value.bytes before) next (Err (fault_at kinds.Head value.at)))) again) ∙ told) in
+      fails_here before (word ∷ value ∷ more) f (Again word (value ∷ more) key refl is (filled_or_not _ again) (sym here)))
+      (λ new. let told2 : cond (is_taken key value.bytes before) next (Err (fault_at kinds.Head value.at)) ≡ Err f = sym (ap (λ b. cond b (Err (fault_at kinds.Head word.at)) (cond (is_taken key value.bytes before) next (Err (fault_at kinds.Head value.at)))) new) ∙ told in
+      bool_cases (is_taken key value.bytes before)
+      (λ taken. fails_behind before p key more f is (fails_at (before ++ p ∷ []) more f (sym (ap (λ b. cond b next (Err (fault_at kinds.Head value.at))) taken) ∙ told2)))
+      (λ bad. let here : fault_at kinds.Head value.at ≡ f = err_is _ _ (sym (ap (λ b. cond b next (Err (fault_at kinds.Head value.at))) bad) ∙ told2) in
+      fails_here before (word ∷ value ∷ more) f (subst (HeadFault text_len before (word ∷ value ∷ more)) here (not_taken before word value more key is bad)))))
 
   -- ---- no fault stands before the one that is told
 
@@ -148,8 +148,8 @@ module _ (text_len : ℕ) where
   word_apart before word key f g inside is told (Alone w k parts is2 at) =
       bool_cases (is_filled (pairs_of key before))
       (λ again. let place : word.at ≡ f.at = ap (λ (q : GridFault). q.at) (sym (ap (λ b. fault_at kinds.Head (cond b word.at text_len)) again) ∙ told) in
-          let last : g.at ≡ text_len = ap (λ (q : GridFault). q.at) at in
-          inl (omega arith))
+      let last : g.at ≡ text_len = ap (λ (q : GridFault). q.at) at in
+      inl (omega arith))
       (λ new. inr (sym told ∙ ap (λ b. fault_at kinds.Head (cond b word.at text_len)) new ∙ sym at))
 
   -- a fault at a key word that stands again
@@ -203,7 +203,7 @@ module _ (text_len : ℕ) where
       option_cases (key_of word.bytes)
       (λ none. let bad = sym (ap (word_alone text_len before word) none) ∙ e in absurd (cc))
       (λ key is. let told : fault_at kinds.Head (cond (is_filled (pairs_of key before)) word.at text_len) ≡ f = err_is _ _ (sym (ap (word_alone text_len before word) is) ∙ e) in
-          word_apart before word key f g (omega (arith, order.1)) is told (moved before (word ∷ []) g (subst (λ ts. HeadFault text_len (before ++ []) ts g) (sym parts) fault)))
+      word_apart before word key f g (omega (arith, order.1)) is told (moved before (word ∷ []) g (subst (λ ts. HeadFault text_len (before ++ []) ts g) (sym parts) fault)))
   head_first from before (word ∷ []) f (q ∷ more) rest g order e parts fault = absurd (cc)
   head_first from before (word ∷ value ∷ tokens) f [] rest g order e parts fault =
       let p : Pair = record { word = word; value = value } in
@@ -212,12 +212,12 @@ module _ (text_len : ℕ) where
       option_cases (key_of word.bytes)
       (λ none. let bad = sym (ap (λ o. pair_taken before word value tokens o next) none) ∙ e in absurd (cc))
       (λ key is. let told : pair_taken before word value tokens (Some key) next ≡ Err f = sym (ap (λ o. pair_taken before word value tokens o next) is) ∙ e in
-          bool_cases (is_filled (pairs_of key before))
-          (λ again. again_apart before word value tokens key f g order.1.0 is (err_is _ _ (sym (ap (λ b. cond b (Err (fault_at kinds.Head word.at)) (cond (is_taken key value.bytes before) next (Err (fault_at kinds.Head value.at)))) again) ∙ told)) here)
-          (λ new. let told2 : cond (is_taken key value.bytes before) next (Err (fault_at kinds.Head value.at)) ≡ Err f = sym (ap (λ b. cond b (Err (fault_at kinds.Head word.at)) (cond (is_taken key value.bytes before) next (Err (fault_at kinds.Head value.at)))) new) ∙ told in
-              bool_cases (is_taken key value.bytes before)
-              (λ taken. absurd (taken_right before word value tokens key g is (not_filled _ new) taken here))
-              (λ bad. value_apart before word value tokens key f g is (not_filled _ new) (err_is _ _ (sym (ap (λ b. cond b next (Err (fault_at kinds.Head value.at))) bad) ∙ told2)) here)))
+      bool_cases (is_filled (pairs_of key before))
+      (λ again. again_apart before word value tokens key f g order.1.0 is (err_is _ _ (sym (ap (λ b. cond b (Err (fault_at kinds.Head word.at)) (cond (is_taken key value.bytes before) next (Err (fault_at kinds.Head value.at)))) again) ∙ told)) here)
+      (λ new. let told2 : cond (is_taken key value.bytes before) next (Err (fault_at kinds.Head value.at)) ≡ Err f = sym (ap (λ b. cond b (Err (fault_at kinds.Head word.at)) (cond (is_taken key value.bytes before) next (Err (fault_at kinds.Head value.at)))) new) ∙ told in
+      bool_cases (is_taken key value.bytes before)
+      (λ taken. absurd (taken_right before word value tokens key g is (not_filled _ new) taken here))
+      (λ bad. value_apart before word value tokens key f g is (not_filled _ new) (err_is _ _ (sym (ap (λ b. cond b next (Err (fault_at kinds.Head value.at))) bad) ∙ told2)) here)))
   head_first from before (word ∷ value ∷ tokens) f (q ∷ more) rest g order e parts fault =
       let p : Pair = record { word = word; value = value } in
       let next : Result (List Pair × List Token) GridFault = pairs_from text_len (before ++ p ∷ []) tokens in
@@ -225,16 +225,16 @@ module _ (text_len : ℕ) where
       option_cases (key_of word.bytes)
       (λ none. let bad = sym (ap (λ o. pair_taken before word value tokens o next) none) ∙ e in absurd (cc))
       (λ key is. let told : pair_taken before word value tokens (Some key) next ≡ Err f = sym (ap (λ o. pair_taken before word value tokens o next) is) ∙ e in
-          bool_cases (is_filled (pairs_of key before))
-          (λ again. let place : word.at ≡ f.at = ap (λ (x : GridFault). x.at) (err_is _ _ (sym (ap (λ b. cond b (Err (fault_at kinds.Head word.at)) (cond (is_taken key value.bytes before) next (Err (fault_at kinds.Head value.at)))) again) ∙ told)) in
-              behind_apart word value tokens more rest (before ++ q ∷ more) f g order.1.1 others (omega (arith, order.1.0)) fault)
-          (λ new. let told2 : cond (is_taken key value.bytes before) next (Err (fault_at kinds.Head value.at)) ≡ Err f = sym (ap (λ b. cond b (Err (fault_at kinds.Head word.at)) (cond (is_taken key value.bytes before) next (Err (fault_at kinds.Head value.at)))) new) ∙ told in
-              bool_cases (is_taken key value.bytes before)
-              (λ taken. let q_is : q ≡ p = same_pair q p (sym (head_is _ _ _ _ parts)) (sym (head_is _ _ _ _ (tail_is _ _ _ _ parts))) in
-                  let fault2 : HeadFault text_len ((before ++ p ∷ []) ++ more) rest g = subst (λ ps. HeadFault text_len ps rest g) (sym (append_assoc before (p ∷ []) more)) (subst (λ x. HeadFault text_len (before ++ x ∷ more) rest g) q_is fault) in
-                  head_first (value.at + 1) (before ++ p ∷ []) tokens f more rest g order.1.1 (sym (ap (λ b. cond b next (Err (fault_at kinds.Head value.at))) taken) ∙ told2) others fault2)
-              (λ bad. let place : value.at ≡ f.at = ap (λ (x : GridFault). x.at) (err_is _ _ (sym (ap (λ b. cond b next (Err (fault_at kinds.Head value.at))) bad) ∙ told2)) in
-                  behind_apart word value tokens more rest (before ++ q ∷ more) f g order.1.1 others (omega arith) fault)))
+      bool_cases (is_filled (pairs_of key before))
+      (λ again. let place : word.at ≡ f.at = ap (λ (x : GridFault). x.at) (err_is _ _ (sym (ap (λ b. cond b (Err (fault_at kinds.Head word.at)) (cond (is_taken key value.bytes before) next (Err (fault_at kinds.Head value.at)))) again) ∙ told)) in
+      behind_apart word value tokens more rest (before ++ q ∷ more) f g order.1.1 others (omega (arith, order.1.0)) fault)
+      (λ new. let told2 : cond (is_taken key value.bytes before) next (Err (fault_at kinds.Head value.at)) ≡ Err f = sym (ap (λ b. cond b (Err (fault_at kinds.Head word.at)) (cond (is_taken key value.bytes before) next (Err (fault_at kinds.Head value.at)))) new) ∙ told in
+      bool_cases (is_taken key value.bytes before)
+      (λ taken. let q_is : q ≡ p = same_pair q p (sym (head_is _ _ _ _ parts)) (sym (head_is _ _ _ _ (tail_is _ _ _ _ parts))) in
+      let fault2 : HeadFault text_len ((before ++ p ∷ []) ++ more) rest g = subst (λ ps. HeadFault text_len ps rest g) (sym (append_assoc before (p ∷ []) more)) (subst (λ x. HeadFault text_len (before ++ x ∷ more) rest g) q_is fault) in
+      head_first (value.at + 1) (before ++ p ∷ []) tokens f more rest g order.1.1 (sym (ap (λ b. cond b next (Err (fault_at kinds.Head value.at))) taken) ∙ told2) others fault2)
+      (λ bad. let place : value.at ≡ f.at = ap (λ (x : GridFault). x.at) (err_is _ _ (sym (ap (λ b. cond b next (Err (fault_at kinds.Head value.at))) bad) ∙ told2)) in
+      behind_apart word value tokens more rest (before ++ q ∷ more) f g order.1.1 others (omega arith) fault)))
 
   -- ---- where the pairs are read to their end
 
@@ -252,9 +252,9 @@ module _ (text_len : ℕ) where
       bool_cases (is_filled (pairs_of key before))
       (λ again. let bad = sym (ap (λ b. cond b (Err (fault_at kinds.Head word.at)) (cond (is_taken key value.bytes before) next (Err (fault_at kinds.Head value.at)))) again) ∙ told in absurd (cc))
       (λ new. let told2 : cond (is_taken key value.bytes before) next (Err (fault_at kinds.Head value.at)) ≡ Ok (all, stop) = sym (ap (λ b. cond b (Err (fault_at kinds.Head word.at)) (cond (is_taken key value.bytes before) next (Err (fault_at kinds.Head value.at)))) new) ∙ told in
-          bool_cases (is_taken key value.bytes before)
-          (λ taken. k (not_filled _ new) taken (sym (ap (λ b. cond b next (Err (fault_at kinds.Head value.at))) taken) ∙ told2))
-          (λ bad. let bad2 = sym (ap (λ b. cond b next (Err (fault_at kinds.Head value.at))) bad) ∙ told2 in absurd (cc)))
+      bool_cases (is_taken key value.bytes before)
+      (λ taken. k (not_filled _ new) taken (sym (ap (λ b. cond b next (Err (fault_at kinds.Head value.at))) taken) ∙ told2))
+      (λ bad. let bad2 = sym (ap (λ b. cond b next (Err (fault_at kinds.Head value.at))) bad) ∙ told2 in absurd (cc)))
 
   pub read_lacks : (before : List Pair) (tokens : List Token) (all : List Pair) (stop : List Token) (more : List Pair) (rest : List Token) (g : GridFault)
       → pairs_from text_len before tokens ≡ Ok (all, stop) → tokens ≡ pair_tokens more ++ rest → Keyed more → HeadFault text_len (before ++ more) rest g → Lacks all (fault_at kinds.Head (place_of text_len stop)) g
@@ -272,7 +272,7 @@ module _ (text_len : ℕ) where
       option_cases (key_of word.bytes)
       (λ none. stop_lacks before (word ∷ value ∷ tokens) all stop rest g (ends_at word (value ∷ tokens) none) (sym (ap (λ o. pair_taken before word value tokens o next) none) ∙ e) parts fault)
       (λ key is. let told : pair_taken before word value tokens (Some key) next ≡ Ok (all, stop) = sym (ap (λ o. pair_taken before word value tokens o next) is) ∙ e in
-          taken_then before word value tokens key next all stop told (λ new taken behind. absurd (taken_right before word value tokens key g is new taken (moved before (word ∷ value ∷ tokens) g (subst (λ ts. HeadFault text_len (before ++ []) ts g) (sym parts) fault)))))
+      taken_then before word value tokens key next all stop told (λ new taken behind. absurd (taken_right before word value tokens key g is new taken (moved before (word ∷ value ∷ tokens) g (subst (λ ts. HeadFault text_len (before ++ []) ts g) (sym parts) fault)))))
   read_lacks before (word ∷ value ∷ tokens) all stop (q ∷ more) rest g e parts keyed fault =
       let p : Pair = record { word = word; value = value } in
       let next : Result (List Pair × List Token) GridFault = pairs_from text_len (before ++ p ∷ []) tokens in
@@ -281,9 +281,9 @@ module _ (text_len : ℕ) where
       let parts_keyed = and_parts (is_some (key_of q.word.bytes)) (list_all (λ (pair : Pair). is_some (key_of pair.word.bytes)) more) keyed in
       option_cases (key_of word.bytes)
       (λ none. let bad : is_some (key_of word.bytes) ≡ true = subst (λ (x : Pair). is_some (key_of x.word.bytes) ≡ true) q_is parts_keyed.0 in
-          let nothing : Option Key = None in
-          let worse : is_some nothing ≡ true = sym (ap (λ (o : Option Key). is_some o) none) ∙ bad in absurd (cc))
+      let nothing : Option Key = None in
+      let worse : is_some nothing ≡ true = sym (ap (λ (o : Option Key). is_some o) none) ∙ bad in absurd (cc))
       (λ key is. let told : pair_taken before word value tokens (Some key) next ≡ Ok (all, stop) = sym (ap (λ o. pair_taken before word value tokens o next) is) ∙ e in
-          taken_then before word value tokens key next all stop told (λ new taken behind.
-              let fault2 : HeadFault text_len ((before ++ p ∷ []) ++ more) rest g = subst (λ ps. HeadFault text_len ps rest g) (sym (append_assoc before (p ∷ []) more)) (subst (λ x. HeadFault text_len (before ++ x ∷ more) rest g) q_is fault) in
-              read_lacks (before ++ p ∷ []) tokens all stop more rest g behind others parts_keyed.1 fault2))
+      taken_then before word value tokens key next all stop told (λ new taken behind.
+      let fault2 : HeadFault text_len ((before ++ p ∷ []) ++ more) rest g = subst (λ ps. HeadFault text_len ps rest g) (sym (append_assoc before (p ∷ []) more)) (subst (λ x. HeadFault text_len (before ++ x ∷ more) rest g) q_is fault) in
+      read_lacks (before ++ p ∷ []) tokens all stop more rest g behind others parts_keyed.1 fault2))

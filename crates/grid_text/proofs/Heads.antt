@@ -117,12 +117,12 @@ pairs_run text_len before [] rest rows cols head nodata h ended = ends_read text
 pairs_run text_len before (p ∷ more) rest rows cols head nodata h ended =
     let valued = and_parts (is_pair p) (list_all is_pair more) (and_parts (list_all is_pair before) (is_pair p && list_all is_pair more) (sym (list_all-append is_pair before (p ∷ more)) ∙ h.valued)).1 in
     key_is p valued.0 (λ key is good.
-        let once : length (pairs_of key before ++ p ∷ pairs_of key more) ≤ 1 = subst (λ (ps : List Pair). length ps ≤ 1) (filter-append (is_pair_of key) before (p ∷ more) ∙ ap (λ ps. pairs_of key before ++ ps) (pairs_of-same key p more is)) (single_of (before ++ p ∷ more) rows cols head nodata h key) in
-        let new : pairs_of key before ≡ [] = nothing_before (pairs_of key before) (pairs_of key more) p once in
-        let joined : (before ++ p ∷ []) ++ more ≡ before ++ p ∷ more = append_assoc before (p ∷ []) more in
-        pair_read text_len before p (pair_tokens more ++ rest) key is new good (not_large key before p more rows cols head nodata h is new)
-        ∙ pairs_run text_len (before ++ p ∷ []) more rest rows cols head nodata (subst (λ ps. IsHead ps rows cols head nodata) (sym joined) h) ended
-        ∙ ap (λ ps. Ok (ps, rest)) joined)
+    let once : length (pairs_of key before ++ p ∷ pairs_of key more) ≤ 1 = subst (λ (ps : List Pair). length ps ≤ 1) (filter-append (is_pair_of key) before (p ∷ more) ∙ ap (λ ps. pairs_of key before ++ ps) (pairs_of-same key p more is)) (single_of (before ++ p ∷ more) rows cols head nodata h key) in
+    let new : pairs_of key before ≡ [] = nothing_before (pairs_of key before) (pairs_of key more) p once in
+    let joined : (before ++ p ∷ []) ++ more ≡ before ++ p ∷ more = append_assoc before (p ∷ []) more in
+    pair_read text_len before p (pair_tokens more ++ rest) key is new good (not_large key before p more rows cols head nodata h is new)
+    ∙ pairs_run text_len (before ++ p ∷ []) more rest rows cols head nodata (subst (λ ps. IsHead ps rows cols head nodata) (sym joined) h) ended
+    ∙ ap (λ ps. Ok (ps, rest)) joined)
 
 -- ---- what a head says is read from it
 
@@ -240,8 +240,8 @@ value_is key (q ∷ qs) p ps valued e =
     let parts = and_parts (is_pair q) (list_all is_pair qs) valued in
     bool_cases (is_pair_of key q)
     (λ own. let here : q ∷ pairs_of key qs ≡ p ∷ ps = sym (ap (λ b. cond b (q ∷ pairs_of key qs) (pairs_of key qs)) own) ∙ e in
-        let good : is_value_of key q.value.bytes ≡ true = sym (ap (λ o. may_stand o q.value.bytes) (names_is (key_of q.word.bytes) key own)) ∙ parts.0 in
-        subst (λ (w : Pair). is_value_of key w.value.bytes ≡ true) (head_is _ _ _ _ here) good)
+    let good : is_value_of key q.value.bytes ≡ true = sym (ap (λ o. may_stand o q.value.bytes) (names_is (key_of q.word.bytes) key own)) ∙ parts.0 in
+    subst (λ (w : Pair). is_value_of key w.value.bytes ≡ true) (head_is _ _ _ _ here) good)
     (λ other. value_is key qs p ps parts.1 (sym (ap (λ b. cond b (q ∷ pairs_of key qs) (pairs_of key qs)) other) ∙ e))
 
 -- a side that stands first is one

@@ -29,8 +29,8 @@ keyed_of [] e = refl
 keyed_of (p ∷ ps) e =
     let parts = and_parts (is_pair p) (list_all is_pair ps) e in
     let word : is_some (key_of p.word.bytes) ≡ true = option_cases (key_of p.word.bytes)
-        (λ none. let bad : may_stand None p.value.bytes ≡ true = sym (ap (λ o. may_stand o p.value.bytes) none) ∙ parts.0 in absurd (cc))
-        (λ key is. ap (λ (o : Option Key). is_some o) is) in
+    (λ none. let bad : may_stand None p.value.bytes ≡ true = sym (ap (λ o. may_stand o p.value.bytes) none) ∙ parts.0 in absurd (cc))
+    (λ key is. ap (λ (o : Option Key). is_some o) is) in
     and_from _ _ word (keyed_of ps parts.1)
 
 -- ---- what is read is a grid
@@ -120,7 +120,7 @@ front_least kind text pairs rest f e bad =
         let run : pairs_from (length text) [] (tokens text) ≡ Ok (others, cells) = ap (pairs_from (length text) []) begins.parts ∙ pairs_run (length text) [] others cells rows cols head nodata h ended in
         let same : ◌≡◌ {A = List Pair × List Token} (others, cells) (pairs, rest) = ok_is _ _ (sym run ∙ e) in
         let front : front_of (fault_at kinds.Head (place_of (length text) rest)) pairs ≡ Ok (record { rows = rows; cols = cols; head = head; nodata = nodata }) =
-            ap (front_of (fault_at kinds.Head (place_of (length text) rest))) (ap (λ (x : List Pair × List Token). x.0) (sym same)) ∙ front_is (fault_at kinds.Head (place_of (length text) rest)) others rows cols head nodata h in
+        ap (front_of (fault_at kinds.Head (place_of (length text) rest))) (ap (λ (x : List Pair × List Token). x.0) (sym same)) ∙ front_is (fault_at kinds.Head (place_of (length text) rest)) others rows cols head nodata h in
         absurd (cc)
 
 -- behind a head a fault is one of the cells

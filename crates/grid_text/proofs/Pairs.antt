@@ -116,8 +116,8 @@ fine_push before word value key fine is new good ok =
       valued = list_all-append is_pair before (p ∷ []) ∙ and_from (list_all is_pair before) (is_pair p && true) fine.valued (and_from (is_pair p) true valued refl);
       single = λ k. bool_cases (same_key key k)
           (λ same. let k_is : key ≡ k = same_key-true key k same in
-              subst (λ (w : Key). length (pairs_of w (before ++ p ∷ [])) ≤ 1) k_is
-              (subst (λ (ps : List Pair). length ps ≤ 1) (sym (pairs_of-push_same key before p is ∙ ap (λ ps. ps ++ p ∷ []) new)) (omega arith)))
+          subst (λ (w : Key). length (pairs_of w (before ++ p ∷ [])) ≤ 1) k_is
+          (subst (λ (ps : List Pair). length ps ≤ 1) (sym (pairs_of-push_same key before p is ∙ ap (λ ps. ps ++ p ∷ []) new)) (omega arith)))
           (λ apart. subst (λ (ps : List Pair). length ps ≤ 1) (sym (pairs_of-push_other key k before p is apart)) (fine.single k));
       small = small_push before word value key fine is new ok;
     }
@@ -179,10 +179,10 @@ pairs_read text_len before (word ∷ value ∷ more) all rest fine e =
     option_cases (key_of word.bytes)
     (λ none. stops_here before (word ∷ value ∷ more) all rest fine (ends_at word (value ∷ more) none) (sym (ap (λ o. pair_taken before word value more o next) none) ∙ e))
     (λ key is. let told : pair_taken before word value more (Some key) next ≡ Ok (all, rest) = sym (ap (λ o. pair_taken before word value more o next) is) ∙ e in
-        bool_cases (is_filled (pairs_of key before))
-        (λ again. let bad = sym (ap (λ b. cond b (Err (fault_at kinds.Head word.at)) (cond (is_taken key value.bytes before) next (Err (fault_at kinds.Head value.at)))) again) ∙ told in absurd (cc))
-        (λ new. let told2 : cond (is_taken key value.bytes before) next (Err (fault_at kinds.Head value.at)) ≡ Ok (all, rest) = sym (ap (λ b. cond b (Err (fault_at kinds.Head word.at)) (cond (is_taken key value.bytes before) next (Err (fault_at kinds.Head value.at)))) new) ∙ told in
-            bool_cases (is_taken key value.bytes before)
-            (λ taken. let says = taken_says key value.bytes before taken in
-                stops_behind before p more all rest (pairs_read text_len (before ++ p ∷ []) more all rest (fine_push before word value key fine is (not_filled _ new) says.0 says.1) (sym (ap (λ b. cond b next (Err (fault_at kinds.Head value.at))) taken) ∙ told2)))
-            (λ bad. let bad2 = sym (ap (λ b. cond b next (Err (fault_at kinds.Head value.at))) bad) ∙ told2 in absurd (cc))))
+    bool_cases (is_filled (pairs_of key before))
+    (λ again. let bad = sym (ap (λ b. cond b (Err (fault_at kinds.Head word.at)) (cond (is_taken key value.bytes before) next (Err (fault_at kinds.Head value.at)))) again) ∙ told in absurd (cc))
+    (λ new. let told2 : cond (is_taken key value.bytes before) next (Err (fault_at kinds.Head value.at)) ≡ Ok (all, rest) = sym (ap (λ b. cond b (Err (fault_at kinds.Head word.at)) (cond (is_taken key value.bytes before) next (Err (fault_at kinds.Head value.at)))) new) ∙ told in
+    bool_cases (is_taken key value.bytes before)
+    (λ taken. let says = taken_says key value.bytes before taken in
+    stops_behind before p more all rest (pairs_read text_len (before ++ p ∷ []) more all rest (fine_push before word value key fine is (not_filled _ new) says.0 says.1) (sym (ap (λ b. cond b next (Err (fault_at kinds.Head value.at))) taken) ∙ told2)))
+    (λ bad. let bad2 = sym (ap (λ b. cond b next (Err (fault_at kinds.Head value.at))) bad) ∙ told2 in absurd (cc))))

@@ -41,7 +41,6 @@ head_nodata pairs nodata (p ∷ q ∷ ps) are e good =
 -- ---- the parts in turn
 
 module _ (kind : Kind) (text : List ℕ) (given : Values) (rest : List ℕ) (r : ReadsPairs text given rest) where
-
   -- the fault where a key lacks
   abbrev pub lacking : GridFault
   lacking = fault_at kinds.Head (place_of (length text) (tokens_left (length text) rest))
@@ -55,7 +54,6 @@ module _ (kind : Kind) (text : List ℕ) (given : Values) (rest : List ℕ) (r :
   front_fails Memory told = tt
 
   module _ (front : Front) (is : front_given lacking given ≡ Ok front) where
-
     behind_front : grid_of kind text ≡ (cells_from kind front.nodata (length text) (front.rows * front.cols) (tokens_left (length text) rest) >>= λ cells. Ok (record { rows = front.rows; cols = front.cols; head = front.head; cells = cells }))
     behind_front = behind_pairs ∙ ap (λ r. r >>= λ front. cells_from kind front.nodata (length text) (front.rows * front.cols) (tokens_left (length text) rest) >>= λ cells. Ok (record { rows = front.rows; cols = front.cols; head = front.head; cells = cells })) is
 

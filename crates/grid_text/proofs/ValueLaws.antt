@@ -82,7 +82,6 @@ over_none : (n d : ℕ) → n ≡ 0 → n / d ≡ 0
 over_none n d none = rw none (omega arith)
 
 module _ (m n : Bool) (s d t e : ℕ) (some_d : 0 < d) (some_e : 0 < e) (ratio : s * e ≡ t * d) (signs : (m ≡ n) ⊎ (s ≡ 0)) where
-
   same_scaled : nearest (pos 1000000 *ℤ with_sign m s) d ≡ nearest (pos 1000000 *ℤ with_sign n t) e
   same_scaled =
       nearest-signed m s d some_d
@@ -92,8 +91,8 @@ module _ (m n : Bool) (s d t e : ℕ) (some_d : 0 < d) (some_e : 0 < e) (ratio :
   same_quotient : quotient (with_sign m s) d ≡ quotient (with_sign n t) e
   same_quotient = bool_cases (s % d == 0)
       (λ whole. quotient-exact m s d some_d whole
-          ∙ ap (λ (z : ℤ). Some z) (sign_same m n (s / d) (t / e) (same_ratio s d t e some_d some_e ratio) (elim signs [ inl same ↦ inl same | inr none ↦ inr (over_none s d none) ]))
-          ∙ sym (quotient-exact n t e some_e (sym (same_whole s d t e some_d some_e ratio) ∙ whole)))
+      ∙ ap (λ (z : ℤ). Some z) (sign_same m n (s / d) (t / e) (same_ratio s d t e some_d some_e ratio) (elim signs [ inl same ↦ inl same | inr none ↦ inr (over_none s d none) ]))
+      ∙ sym (quotient-exact n t e some_e (sym (same_whole s d t e some_d some_e ratio) ∙ whole)))
       (λ part. quotient-part m s d part ∙ sym (quotient-part n t e (sym (same_whole s d t e some_d some_e ratio) ∙ part)))
 
   same_taken : (kind : Kind) → taken kind (with_sign m s) d ≡ taken kind (with_sign n t) e
@@ -153,10 +152,11 @@ pub missing_reads : (kind : Kind) (nodata token : List ℕ) → is_missing nodat
 unfolding cell_read
 missing_reads kind nodata token h =
     elim (or_cases (both_decimals (decimal_of nodata) (decimal_of token)) (is_nan nodata && is_nan token) h) [
-      inl both ↦ decimals_read (decimal_of nodata) (decimal_of token) both
-    | inr nans ↦
-        let parts = and_parts (is_nan nodata) (is_nan token) nans in
-        ap (cell_of_decimal kind) (nan_none token parts.1 ∙ sym (nan_none nodata parts.0)) ]
+      | inl both ↦ decimals_read (decimal_of nodata) (decimal_of token) both
+      | inr nans ↦
+          let parts = and_parts (is_nan nodata) (is_nan token) nans in
+          ap (cell_of_decimal kind) (nan_none token parts.1 ∙ sym (nan_none nodata parts.0))
+    ]
   where
     decimals_read : (a b : Option Decimal) → both_decimals a b ≡ true → cell_of_decimal kind b ≡ cell_of_decimal kind a
     decimals_read (Some x) (Some y) e = sym (same_read kind x y e)
@@ -170,7 +170,7 @@ pub nodata_missing : (nodata : List ℕ) → is_nodata nodata ≡ true → is_mi
 nodata_missing nodata h =
     option_cases (decimal_of nodata)
     (λ none. let nan : is_nan nodata ≡ true = sym (ap (λ o. is_some o || is_nan nodata) none) ∙ h in
-        ap (λ o. both_decimals o o || (is_nan nodata && is_nan nodata)) none ∙ ap (λ b. b && b) nan)
+    ap (λ o. both_decimals o o || (is_nan nodata && is_nan nodata)) none ∙ ap (λ b. b && b) nan)
     (λ d is. ap (λ o. both_decimals o o || (is_nan nodata && is_nan nodata)) is ∙ ap (λ b. b || (is_nan nodata && is_nan nodata)) (value_is_itself d))
 
 pub may_be_itself : (r : Result Cell NumberFault) → may_be_same (number_of_cell r) r ≡ true
@@ -189,8 +189,8 @@ cell_there kind nodata token h = sym (ap (λ b. cond b (Ok Mv) (cell_read kind t
 pub not_missing : (kind : Kind) (nodata token : List ℕ) (number : Option ℤ) (read : Result Cell NumberFault) → number ≡ number_of_cell (cell_read kind nodata) → read ≡ cell_read kind token → may_be_same number read ≡ false → is_missing nodata token ≡ false
 not_missing kind nodata token number read prepared is other = bool_cases (is_missing nodata token)
     (λ missing. let same : read ≡ cell_read kind nodata = is ∙ missing_reads kind nodata token missing in
-        let bad : may_be_same number read ≡ true = ap (λ o. may_be_same o read) (prepared ∙ ap number_of_cell (sym same)) ∙ may_be_itself read in
-        absurd (cc))
+    let bad : may_be_same number read ≡ true = ap (λ o. may_be_same o read) (prepared ∙ ap number_of_cell (sym same)) ∙ may_be_itself read in
+    absurd (cc))
     (λ there. there)
 
 -- ---- the size of a cell
@@ -199,7 +199,7 @@ parts_sign : (text : List ℕ) (negative : Bool) (whole fraction power : List �
 parts_sign text negative whole fraction power d e =
     bool_cases (has_digits text whole fraction)
     (λ some. let then : option_map (λ (x : ℤ). let r : Decimal = record { negative = negative; whole = whole; fraction = fraction; exponent = x } in r) (exponent_of power) ≡ Some d = sym (ap (λ b. cond b (option_map (λ (x : ℤ). let r : Decimal = record { negative = negative; whole = whole; fraction = fraction; exponent = x } in r) (exponent_of power)) None) some) ∙ e in
-        power_sign (exponent_of power) then)
+    power_sign (exponent_of power) then)
     (λ none. let bad : None ≡ Some d = sym (ap (λ b. cond b (option_map (λ (x : ℤ). let r : Decimal = record { negative = negative; whole = whole; fraction = fraction; exponent = x } in r) (exponent_of power)) None) none) ∙ e in absurd (cc))
   where
     power_sign : (o : Option ℤ) → option_map (λ (x : ℤ). let r : Decimal = record { negative = negative; whole = whole; fraction = fraction; exponent = x } in r) o ≡ Some d → d.negative ≡ negative
@@ -253,6 +253,6 @@ size_tested value r coordinate plain reading =
     option_cases (decimal_of value)
     (λ none. let nothing : Option Decimal = None in let bad : is_some nothing ≡ true = sym (ap (λ (o : Option Decimal). is_some o) none) ∙ parts.1 in absurd (cc))
     (λ d is.
-        ap not (reading d zero_decimal is zero_read)
-        ∙ not_zero d (decimal_sign value d is ∙ plain)
-        ∙ sym (ap (λ b. b && is_positive (decimal_of value)) parts.0 ∙ ap is_positive is))
+    ap not (reading d zero_decimal is zero_read)
+    ∙ not_zero d (decimal_sign value d is ∙ plain)
+    ∙ sym (ap (λ b. b && is_positive (decimal_of value)) parts.0 ∙ ap is_positive is))

@@ -12,7 +12,6 @@ ghost use Rattle.grid_text.specs.Steps.{Gives, may_be_same, number_of_cell, toke
 use crate::fault::{GridFault, GridKind, ReadGrid};
 use crate::key::is_nan;
 use crate::tokens::next_token;
-
 use cell_values::{Cell, Cells, Kind, NumberFault, is_decimal, read_cell, same_decimal};
 use std::alloc::Global;
 

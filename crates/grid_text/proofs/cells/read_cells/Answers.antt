@@ -26,7 +26,7 @@ loop-preserved c =
     let left : List Token = tokens_left c.args.text_len c.loop.rest.now in
     let more : List Token = tokens_left c.args.text_len c.in-Some.behind.now in
     let on = cell_read_on c.args.kind c.args.nodata.now c.args.text_len c.loop.cells.items c.args.count c.loop.counter left _ c.loop.invariant.same (token_view c.in-Some.token) more c.in-Ok.cell c.loop-test.true c.in-Some.ensures.tokens
-        (ap (told_at c.in-Some.token.at) (sym c.cell_at.ensures) ∙ sym c.told.ensures ∙ c.in-Ok.is) in
+    (ap (told_at c.in-Some.token.at) (sym c.cell_at.ensures) ∙ sym c.told.ensures ∙ c.in-Ok.is) in
     record {
       same = ap (λ (items : List Cell). before items (cells_from c.args.kind c.args.nodata.now c.args.text_len (c.args.count - (c.loop.counter + 1)) more)) c.in_ok-push-in-Ok.ensures.items ∙ on;
       within = omega (arith, c.in-Some.ensures.shorter, c.loop.invariant.within);
