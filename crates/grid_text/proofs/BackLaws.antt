@@ -1,79 +1,320 @@
 -- A written text is read back.
-use Rattle.std.proofs.Common.{◌≡◌, ℕ, zero, suc, ◌*◌, ◌^◌, ◌<◌, ◌≤◌, Bool, true, cond, List, [], ◌∷◌, ◌++◌, length, take, drop, map, Some, lit<, refl, sym, ap, ◌∙◌, append_assoc, arith}
-use Rattle.std.specs.Prelude.{codes, decimal}
-use Rattle.std.specs.List.{All}
-use Rattle.std.proofs.Math.Nat.{mul_comm}
-use Rattle.std.proofs.lemmas.List.{nil_from_length, take-append-drop, map-append, length-drop}
+use Rattle.std.proofs.Common.{◌≡◌, ℕ, zero, suc, ◌+◌, ◌*◌, ◌^◌, ◌<◌, ◌≤◌, Bool, true, false, ◌&&◌, ◌||◌, cond, List, [], ◌∷◌, ◌++◌, length, take, drop, map, Some, None, Result, Ok, Err, ℤ, lit<, refl, sym, ap, subst, ◌∙◌, append_assoc, mul_comm, arith}
+use Rattle.std.specs.Prelude.{codes, decimal, filter, is_some, is_none, nat_lt, nat_le}
+use Rattle.std.specs.declared.option.Option.{Option}
+use Rattle.std.specs.Option.{option_and_then}
+use Rattle.std.specs.Char.{to_ascii_lowercase}
+use Rattle.std.specs.List.{All, list_all}
+use Rattle.std.proofs.lemmas.Bool.{and_parts, and_from, or_from, or_left, ne_eqb, lt-ltb, false_from_ne_true}
+use Rattle.std.proofs.lemmas.List.{nil_from_length, take-append-drop, map-append, length-drop, append-nil}
 use Rattle.std.proofs.lemmas.List.Elements.{All-head, All-tail, All-take, All-drop}
 use Rattle.cell_values.specs.declared.cell.Cell.{Cell}
-use Rattle.cell_values.specs.declared.kind.Kind.TheVariants.{Scalar}
+use Rattle.cell_values.specs.declared.cell.Cell.TheVariants.{Mv, Val}
+use Rattle.cell_values.specs.declared.cell.NumberFault.{NumberFault}
+use Rattle.cell_values.specs.declared.kind.Kind.{Kind}
+use Rattle.cell_values.specs.Kinds.{IsCell}
+use Rattle.cell_values.specs.Decimal.{Decimal, decimal_of, IsDecimalText}
 use Rattle.cell_values.specs.Printed.{printed_cell}
+use Rattle.cell_values.specs.Reading.{cell_read, same_value}
+use Rattle.cell_values.proofs.Alike.{same_value-means}
+use Rattle.cell_values.proofs.DecimalLaws.{text-from_some, some-from_text}
+use Rattle.cell_values.proofs.PrintedBack.{printed-back}
+use Rattle.cell_values.proofs.PrintedTokens.{decimal-visible, decimal-some, missing_decimal, decimal-missing, printed-decimal, printed-not_missing}
+use Rattle.grid_text.specs.declared.key.Key.{Key}
+use Rattle.grid_text.specs.declared.key.Key.TheVariants.{Cols, Rows, X, Y, Size, Nodata}
+use Rattle.grid_text.specs.declared.grid.Grid.{Grid}
 use Rattle.grid_text.specs.declared.grid.Head.{Head}
-use Rattle.grid_text.specs.Tokens.{is_blank, tokens}
-use Rattle.grid_text.specs.Plain.{cell_of, IsPlainHead}
-use Rattle.grid_text.specs.Written.{key_line, head_lines, behind_cell, row_line, row_lines, written_plain, IsPlainCell, WrittenGridsReadBack}
-use Rattle.grid_text.proofs.TokenLaws.{IsToken, token_then_blank}
-use Rattle.grid_text.proofs.WordLaws.{digits_of_number, digits_token, decimal_digits, decimal_number, plain_cell}
+use Rattle.grid_text.specs.Tokens.{Token, is_blank, tokens_from, tokens}
+use Rattle.grid_text.specs.Number.{number_of}
+use Rattle.grid_text.specs.Key.{is_word, key_of, is_center, is_nan, above_zero, side_of, is_positive, is_coordinate, is_cell_size, is_nodata}
+use Rattle.grid_text.specs.Form.{Pair, pair_tokens, names, is_pair_of, pairs_of, values_of, may_stand, is_pair, ends_pairs, placed, nodata_of, IsSize, IsHead, both_decimals, is_missing, cell_of, Begins, IsGrid}
+use Rattle.grid_text.specs.Written.{key_line, head_lines, behind_cell, row_line, row_lines, written_grid, text_of, AreGridValues, WrittenGridsReadBack}
+use Rattle.grid_text.specs.Steps.{is_token_byte}
+use Rattle.grid_text.proofs.Tools.{bool_cases, option_cases, some_is, ok_is, head_is, tail_is}
+use Rattle.grid_text.proofs.TokenLaws.{IsToken, blank_front, tokens_from_run}
+use Rattle.grid_text.proofs.WordLaws.{digits_token, decimal_digits, decimal_number}
+use Rattle.grid_text.proofs.ValueLaws.{word_none, nodata_missing, cell_missing, cell_there}
+use Rattle.grid_text.proofs.Laws.{keyed_of, grid_is}
 
--- ---- the head's lines
+-- ---- words that are tokens
 
-line_words : (key value rest : List ℕ) → IsToken key → IsToken value → tokens (key_line key value ++ rest) ≡ key ∷ value ∷ tokens rest
-line_words key value rest k v =
-    ap tokens (append_assoc key (32 ∷ (value ++ 10 ∷ [])) rest ∙ ap (λ (more : List ℕ). key ++ 32 ∷ more) (append_assoc value (10 ∷ []) rest))
-    ∙ token_then_blank key (value ++ 10 ∷ rest) 32 k refl
-    ∙ ap (λ ts. key ∷ ts) (token_then_blank value rest 10 v refl)
+visible : (b : ℕ) → 32 < b → is_token_byte b ≡ true
+visible b above =
+    let other = λ (k : ℕ) (low : k < 33). ne_eqb b k (λ (e : b ≡ k). omega (arith, e, above, low)) in
+    rw (other 32 (lit< tt), other 9 (lit< tt), other 13 (lit< tt), other 10 (lit< tt)) refl
 
-first_line_words : (key value more rest : List ℕ) → IsToken key → IsToken value → tokens ((key_line key value ++ more) ++ rest) ≡ key ∷ value ∷ tokens (more ++ rest)
-first_line_words key value more rest k v = ap tokens (append_assoc (key_line key value) more rest) ∙ line_words key value (more ++ rest) k v
+decimal_token : (word : List ℕ) → IsDecimalText word → IsToken word
+decimal_token word d = record { some = decimal-some word d; bytes = decimal-visible is_token_byte visible word d }
 
--- the words of a head's lines
-head_words : (rows cols : ℕ) (h : Head) (rest : List ℕ) → rows < 2 ^ 64 → cols < 2 ^ 64 → IsPlainHead h → tokens (head_lines rows cols h ++ rest)
-    ≡ codes "ncols" ∷ decimal cols ∷ codes "nrows" ∷ decimal rows ∷ codes "xllcorner" ∷ h.x ∷ codes "yllcorner" ∷ h.y ∷ codes "cellsize" ∷ h.size ∷ tokens rest
-head_words rows cols h rest few_rows few_cols plain =
-    let x_line = key_line (codes "xllcorner") h.x in
-    let y_line = key_line (codes "yllcorner") h.y in
-    let size_line = key_line (codes "cellsize") h.size in
-    ap (λ (b : Bool). tokens ((key_line (codes "ncols") (decimal cols) ++ (key_line (codes "nrows") (decimal rows) ++ (key_line (cond b (codes "xllcenter") (codes "xllcorner")) h.x ++ (key_line (cond h.y_center (codes "yllcenter") (codes "yllcorner")) h.y ++ size_line)))) ++ rest)) plain.x_center
-    ∙ ap (λ (b : Bool). tokens ((key_line (codes "ncols") (decimal cols) ++ (key_line (codes "nrows") (decimal rows) ++ (x_line ++ (key_line (cond b (codes "yllcenter") (codes "yllcorner")) h.y ++ size_line)))) ++ rest)) plain.y_center
-    ∙ first_line_words (codes "ncols") (decimal cols) (key_line (codes "nrows") (decimal rows) ++ (x_line ++ (y_line ++ size_line))) rest (record { some = lit< tt; bytes = refl }) (digits_token _ (decimal_digits cols few_cols))
-    ∙ ap (λ ts. codes "ncols" ∷ decimal cols ∷ ts)
-    (first_line_words (codes "nrows") (decimal rows) (x_line ++ (y_line ++ size_line)) rest (record { some = lit< tt; bytes = refl }) (digits_token _ (decimal_digits rows few_rows))
-    ∙ ap (λ ts. codes "nrows" ∷ decimal rows ∷ ts)
-    (first_line_words (codes "xllcorner") h.x (y_line ++ size_line) rest (record { some = lit< tt; bytes = refl }) (digits_token h.x (digits_of_number 12 h.x plain.x_number plain.x))
-    ∙ ap (λ ts. codes "xllcorner" ∷ h.x ∷ ts)
-    (first_line_words (codes "yllcorner") h.y size_line rest (record { some = lit< tt; bytes = refl }) (digits_token h.y (digits_of_number 12 h.y plain.y_number plain.y))
-    ∙ ap (λ ts. codes "yllcorner" ∷ h.y ∷ ts)
-    (line_words (codes "cellsize") h.size rest (record { some = lit< tt; bytes = refl }) (digits_token h.size (digits_of_number 12 h.size plain.size_number plain.size))))))
+some_token : (word : List ℕ) → is_some (decimal_of word) ≡ true → IsToken word
+some_token word e = decimal_token word (text-from_some word e)
 
--- ---- the rows
+positive_some : (o : Option Decimal) → is_positive o ≡ true → is_some o ≡ true
+positive_some None e = absurd (cc)
+positive_some (Some d) e = refl
+
+coordinate_token : (word : List ℕ) → is_coordinate word ≡ true → IsToken word
+coordinate_token word e = some_token word (and_parts (nat_le (length word) 64) (is_some (decimal_of word)) e).1
+
+size_token : (word : List ℕ) → is_cell_size word ≡ true → IsToken word
+size_token word e = some_token word (positive_some (decimal_of word) (and_parts (nat_le (length word) 64) (is_positive (decimal_of word)) e).1)
+
+-- ---- the words of a text
+
+-- the words of these bytes, wherever they stand
+pub record HasWords (bytes : List ℕ) (words : List (List ℕ)) : Type 0 where
+  found : (at : ℕ) → map (λ (t : Token). t.bytes) (tokens_from at bytes) ≡ words
+
+no_words : HasWords [] []
+no_words = record { found = λ at. refl }
+
+-- a word and a blank in front
+word_front : (word rest : List ℕ) (blank : ℕ) (words : List (List ℕ)) → IsToken word → is_blank blank ≡ true → HasWords rest words → HasWords (word ++ blank ∷ rest) (word ∷ words)
+word_front [] rest blank words t b h = absurd (omega (arith, t.some))
+word_front (c ∷ cs) rest blank words t b h = record {
+  found = λ at.
+      ap (map (λ (w : Token). w.bytes)) (tokens_from_run at c cs (blank ∷ rest) t.bytes b)
+      ∙ ap (λ ws. (c ∷ cs) ∷ ws) (ap (map (λ (w : Token). w.bytes)) (blank_front (at + suc (length cs)) blank rest b) ∙ h.found (at + suc (length cs) + 1));
+}
+
+line_front : (key value rest : List ℕ) (words : List (List ℕ)) → IsToken key → IsToken value → HasWords rest words → HasWords (key_line key value ++ rest) (key ∷ value ∷ words)
+line_front key value rest words k v h =
+    subst (λ bytes. HasWords bytes (key ∷ value ∷ words)) (sym (append_assoc key (32 ∷ (value ++ 10 ∷ [])) rest ∙ ap (λ (more : List ℕ). key ++ 32 ∷ more) (append_assoc value (10 ∷ []) rest)))
+    (word_front key (value ++ 10 ∷ rest) 32 (value ∷ words) k refl (word_front value rest 10 words v refl h))
+
+-- a line of several
+lines_front : (key value more rest : List ℕ) (words : List (List ℕ)) → IsToken key → IsToken value → HasWords (more ++ rest) words → HasWords ((key_line key value ++ more) ++ rest) (key ∷ value ∷ words)
+lines_front key value more rest words k v h = subst (λ bytes. HasWords bytes (key ∷ value ∷ words)) (sym (append_assoc (key_line key value) more rest)) (line_front key value (more ++ rest) words k v h)
+
+-- ---- the words of the rows
 
 blank_behind : (cells : List Cell) → is_blank (behind_cell cells) ≡ true
 blank_behind [] = refl
 blank_behind (cell ∷ cells) = refl
 
-row_words : (cells : List Cell) (rest : List ℕ) → All IsPlainCell cells → tokens (row_line Scalar cells ++ rest) ≡ map (printed_cell Scalar) cells ++ tokens rest
-row_words [] rest plain = refl
-row_words (cell ∷ cells) rest plain =
-    ap tokens (append_assoc (printed_cell Scalar cell) (behind_cell cells ∷ row_line Scalar cells) rest)
-    ∙ token_then_blank (printed_cell Scalar cell) (row_line Scalar cells ++ rest) (behind_cell cells) (plain_cell cell (All-head IsPlainCell cell cells plain)).0 (blank_behind cells)
-    ∙ ap (λ ts. printed_cell Scalar cell ∷ ts) (row_words cells rest (All-tail IsPlainCell cell cells plain))
+row_words : (kind : Kind) (cells : List Cell) (rest : List ℕ) (words : List (List ℕ)) → All (IsCell kind) cells → HasWords rest words → HasWords (row_line kind cells ++ rest) (map (printed_cell kind) cells ++ words)
+row_words kind [] rest words are h = h
+row_words kind (cell ∷ cells) rest words are h =
+    subst (λ bytes. HasWords bytes (printed_cell kind cell ∷ (map (printed_cell kind) cells ++ words))) (sym (append_assoc (printed_cell kind cell) (behind_cell cells ∷ row_line kind cells) rest))
+    (word_front (printed_cell kind cell) (row_line kind cells ++ rest) (behind_cell cells) (map (printed_cell kind) cells ++ words) (decimal_token (printed_cell kind cell) (printed-decimal kind cell (All-head (IsCell kind) cell cells are))) (blank_behind cells)
+    (row_words kind cells rest words (All-tail (IsCell kind) cell cells are) h))
 
-rows_words : (rows cols : ℕ) (cells : List Cell) → All IsPlainCell cells → length cells ≡ rows * cols → tokens (row_lines Scalar rows cols cells) ≡ map (printed_cell Scalar) cells
-rows_words zero cols cells plain count =
+rows_words : (kind : Kind) (rows cols : ℕ) (cells : List Cell) → All (IsCell kind) cells → length cells ≡ rows * cols → HasWords (row_lines kind rows cols cells) (map (printed_cell kind) cells)
+rows_words kind zero cols cells are count =
     let none : cells ≡ [] = nil_from_length cells (omega (arith, count)) in
-    ap (map (printed_cell Scalar)) (sym none)
-rows_words (suc rows) cols cells plain count =
+    subst (λ cs. HasWords [] (map (printed_cell kind) cs)) (sym none) no_words
+rows_words kind (suc rows) cols cells are count =
     let left : length (drop cols cells) ≡ rows * cols = omega (arith, length-drop cols cells, count) in
-    row_words (take cols cells) (row_lines Scalar rows cols (drop cols cells)) (All-take IsPlainCell cols cells plain)
-    ∙ ap (λ ts. map (printed_cell Scalar) (take cols cells) ++ ts) (rows_words rows cols (drop cols cells) (All-drop IsPlainCell cols cells plain) left)
-    ∙ sym (map-append (printed_cell Scalar) (take cols cells) (drop cols cells))
-    ∙ ap (map (printed_cell Scalar)) (take-append-drop cols cells)
+    subst (HasWords (row_lines kind (suc rows) cols cells)) (sym (map-append (printed_cell kind) (take cols cells) (drop cols cells)) ∙ ap (map (printed_cell kind)) (take-append-drop cols cells))
+    (row_words kind (take cols cells) (row_lines kind rows cols (drop cols cells)) (map (printed_cell kind) (drop cols cells)) (All-take (IsCell kind) cols cells are)
+    (rows_words kind rows cols (drop cols cells) (All-drop (IsCell kind) cols cells are) left))
 
-cells_back : (cells : List Cell) → All IsPlainCell cells → map cell_of (map (printed_cell Scalar) cells) ≡ map Some cells
-cells_back [] plain = refl
-cells_back (cell ∷ cells) plain =
-    ap (λ o. o ∷ map cell_of (map (printed_cell Scalar) cells)) (plain_cell cell (All-head IsPlainCell cell cells plain)).1
-    ∙ ap (λ os. Some cell ∷ os) (cells_back cells (All-tail IsPlainCell cell cells plain))
+-- ---- the words of the head
+
+-- the words of the pairs
+abbrev head_pairs : ℕ → ℕ → Head → List (List ℕ × List ℕ)
+head_pairs rows cols h =
+    (codes "ncols", decimal cols) ∷ (codes "nrows", decimal rows)
+    ∷ (cond h.x_center (codes "xllcenter") (codes "xllcorner"), h.x) ∷ (cond h.y_center (codes "yllcenter") (codes "yllcorner"), h.y)
+    ∷ (codes "cellsize", h.size) ∷ (codes "NODATA_value", codes "1e31") ∷ []
+
+abbrev flat : List (List ℕ × List ℕ) → List (List ℕ)
+flat [] = []
+flat (kv ∷ kvs) = kv.0 ∷ kv.1 ∷ flat kvs
+
+center_token : (center : Bool) (one other : List ℕ) → IsToken one → IsToken other → IsToken (cond center one other)
+center_token true one other a b = a
+center_token false one other a b = b
+
+head_words : (rows cols : ℕ) (h : Head) (rest : List ℕ) (words : List (List ℕ)) → rows < 2 ^ 64 → cols < 2 ^ 64 → is_coordinate h.x ≡ true → is_coordinate h.y ≡ true → is_cell_size h.size ≡ true → HasWords rest words
+    → HasWords (head_lines rows cols h ++ (key_line (codes "NODATA_value") (codes "1e31") ++ rest)) (flat (head_pairs rows cols h) ++ words)
+head_words rows cols h rest words few_rows few_cols x y size found =
+    let x_key = cond h.x_center (codes "xllcenter") (codes "xllcorner") in
+    let y_key = cond h.y_center (codes "yllcenter") (codes "yllcorner") in
+    let last : List ℕ = key_line (codes "NODATA_value") (codes "1e31") ++ rest in
+    let size_line = key_line (codes "cellsize") h.size in
+    let y_line = key_line y_key h.y in
+    let x_line = key_line x_key h.x in
+    lines_front (codes "ncols") (decimal cols) (key_line (codes "nrows") (decimal rows) ++ (x_line ++ (y_line ++ size_line))) last _ (record { some = lit< tt; bytes = refl }) (digits_token _ (decimal_digits cols few_cols))
+    (lines_front (codes "nrows") (decimal rows) (x_line ++ (y_line ++ size_line)) last _ (record { some = lit< tt; bytes = refl }) (digits_token _ (decimal_digits rows few_rows))
+    (lines_front x_key h.x (y_line ++ size_line) last _ (center_token h.x_center (codes "xllcenter") (codes "xllcorner") (record { some = lit< tt; bytes = refl }) (record { some = lit< tt; bytes = refl })) (coordinate_token h.x x)
+    (lines_front y_key h.y size_line last _ (center_token h.y_center (codes "yllcenter") (codes "yllcorner") (record { some = lit< tt; bytes = refl }) (record { some = lit< tt; bytes = refl })) (coordinate_token h.y y)
+    (line_front (codes "cellsize") h.size last _ (record { some = lit< tt; bytes = refl }) (size_token h.size size)
+    (line_front (codes "NODATA_value") (codes "1e31") rest words (record { some = lit< tt; bytes = refl }) (record { some = lit< tt; bytes = refl }) found)))))
+
+-- ---- the tokens of words
+
+-- tokens that are pairs of these words, and others behind
+record Split (kvs : List (List ℕ × List ℕ)) (words : List (List ℕ)) (ts : List Token) : Type 0 where
+  pairs : List Pair
+  rest : List Token
+  parts : ts ≡ pair_tokens pairs ++ rest
+  front : map (λ (p : Pair). (p.word.bytes, p.value.bytes)) pairs ≡ kvs
+  back : map (λ (t : Token). t.bytes) rest ≡ words
+
+split_of : (kvs : List (List ℕ × List ℕ)) (words : List (List ℕ)) (ts : List Token) → map (λ (t : Token). t.bytes) ts ≡ flat kvs ++ words → Split kvs words ts
+split_of [] words ts e = record { pairs = []; rest = ts; parts = refl; front = refl; back = e }
+split_of (kv ∷ kvs) words [] e = absurd (cc)
+split_of (kv ∷ kvs) words (t ∷ []) e = absurd (cc)
+split_of (kv ∷ kvs) words (t ∷ u ∷ ts) e =
+    let s = split_of kvs words ts (tail_is _ _ _ _ (tail_is _ _ _ _ e)) in
+    let first : t.bytes ≡ kv.0 = head_is _ _ _ _ e in
+    let second : u.bytes ≡ kv.1 = head_is _ _ _ _ (tail_is _ _ _ _ e) in
+    record {
+      pairs = record { word = t; value = u } ∷ s.pairs;
+      rest = s.rest;
+      parts = ap (λ us. t ∷ u ∷ us) s.parts;
+      front = ap (λ (w : List ℕ). (w, u.bytes) ∷ map (λ (p : Pair). (p.word.bytes, p.value.bytes)) s.pairs) first ∙ ap (λ (w : List ℕ). (kv.0, w) ∷ map (λ (p : Pair). (p.word.bytes, p.value.bytes)) s.pairs) second ∙ ap (λ ks. kv ∷ ks) s.front;
+      back = s.back;
+    }
+
+-- what the pairs of a key say is said by their words
+abbrev named : Key → List (List ℕ × List ℕ) → List (List ℕ × List ℕ)
+named key kvs = filter (λ kv. names (key_of kv.0) key) kvs
+
+named_pairs : (key : Key) (pairs : List Pair) → map (λ (p : Pair). (p.word.bytes, p.value.bytes)) (pairs_of key pairs) ≡ named key (map (λ (p : Pair). (p.word.bytes, p.value.bytes)) pairs)
+named_pairs key [] = refl
+named_pairs key (p ∷ ps) = bool_cases (is_pair_of key p)
+    (λ own. ap (λ b. map (λ (q : Pair). (q.word.bytes, q.value.bytes)) (cond b (p ∷ pairs_of key ps) (pairs_of key ps))) own
+    ∙ ap (λ kvs. (p.word.bytes, p.value.bytes) ∷ kvs) (named_pairs key ps)
+    ∙ sym (ap (λ b. cond b ((p.word.bytes, p.value.bytes) ∷ named key (map (λ (q : Pair). (q.word.bytes, q.value.bytes)) ps)) (named key (map (λ (q : Pair). (q.word.bytes, q.value.bytes)) ps))) own))
+    (λ other. ap (λ b. map (λ (q : Pair). (q.word.bytes, q.value.bytes)) (cond b (p ∷ pairs_of key ps) (pairs_of key ps))) other
+    ∙ named_pairs key ps
+    ∙ sym (ap (λ b. cond b ((p.word.bytes, p.value.bytes) ∷ named key (map (λ (q : Pair). (q.word.bytes, q.value.bytes)) ps)) (named key (map (λ (q : Pair). (q.word.bytes, q.value.bytes)) ps))) other))
+
+map_map : {A B C : Type 0} (f : A → B) (g : B → C) (xs : List A) → map (λ x. g (f x)) xs ≡ map g (map f xs)
+map_map f g [] = refl
+map_map f g (x ∷ xs) = ap (λ ys. g (f x) ∷ ys) (map_map f g xs)
+
+values_named : (key : Key) (pairs : List Pair) (kvs found : List (List ℕ × List ℕ)) → map (λ (p : Pair). (p.word.bytes, p.value.bytes)) pairs ≡ kvs → named key kvs ≡ found → values_of key pairs ≡ map (λ kv. kv.1) found
+values_named key pairs kvs found e n = map_map (λ (p : Pair). (p.word.bytes, p.value.bytes)) (λ kv. kv.1) (pairs_of key pairs) ∙ ap (map (λ kv. kv.1)) (named_pairs key pairs ∙ ap (named key) e ∙ n)
+
+-- a place, by the words of its pair
+abbrev placed_words : List ℕ × List ℕ → Bool × List ℕ
+placed_words kv = (is_center kv.0, kv.1)
+
+placed_named : (key : Key) (pairs : List Pair) (kvs found : List (List ℕ × List ℕ)) → map (λ (p : Pair). (p.word.bytes, p.value.bytes)) pairs ≡ kvs → named key kvs ≡ found → map placed (pairs_of key pairs) ≡ map placed_words found
+placed_named key pairs kvs found e n = map_map (λ (p : Pair). (p.word.bytes, p.value.bytes)) placed_words (pairs_of key pairs) ∙ ap (map placed_words) (named_pairs key pairs ∙ ap (named key) e ∙ n)
+
+valued_words : (pairs : List Pair) (kvs : List (List ℕ × List ℕ)) → map (λ (p : Pair). (p.word.bytes, p.value.bytes)) pairs ≡ kvs → list_all (λ kv. may_stand (key_of kv.0) kv.1) kvs ≡ true → list_all is_pair pairs ≡ true
+valued_words [] kvs e all = refl
+valued_words (p ∷ ps) [] e all = absurd (cc)
+valued_words (p ∷ ps) (kv ∷ kvs) e all =
+    let parts = and_parts (may_stand (key_of kv.0) kv.1) (list_all (λ kv. may_stand (key_of kv.0) kv.1) kvs) all in
+    let here : (p.word.bytes, p.value.bytes) ≡ kv = head_is _ _ _ _ e in
+    and_from _ _ (subst (λ (x : List ℕ × List ℕ). may_stand (key_of x.0) x.1 ≡ true) (sym here) parts.0) (valued_words ps kvs (tail_is _ _ _ _ e) parts.1)
+
+-- ---- the head
+
+-- which of the pairs has each key
+record AreNamed (rows cols : ℕ) (h : Head) : Type 0 where
+  has_cols : named Cols (head_pairs rows cols h) ≡ (codes "ncols", decimal cols) ∷ []
+  has_rows : named Rows (head_pairs rows cols h) ≡ (codes "nrows", decimal rows) ∷ []
+  has_x : map placed_words (named X (head_pairs rows cols h)) ≡ (h.x_center, h.x) ∷ []
+  has_y : map placed_words (named Y (head_pairs rows cols h)) ≡ (h.y_center, h.y) ∷ []
+  has_size : named Size (head_pairs rows cols h) ≡ (codes "cellsize", h.size) ∷ []
+  has_nodata : named Nodata (head_pairs rows cols h) ≡ (codes "NODATA_value", codes "1e31") ∷ []
+
+named_by : (rows cols : ℕ) (x_center y_center : Bool) (x y size : List ℕ) → AreNamed rows cols (record { x_center = x_center; y_center = y_center; x = x; y = y; size = size })
+unfolding key_of
+named_by rows cols true true x y size = record { has_cols = refl; has_rows = refl; has_x = refl; has_y = refl; has_size = refl; has_nodata = refl }
+named_by rows cols true false x y size = record { has_cols = refl; has_rows = refl; has_x = refl; has_y = refl; has_size = refl; has_nodata = refl }
+named_by rows cols false true x y size = record { has_cols = refl; has_rows = refl; has_x = refl; has_y = refl; has_size = refl; has_nodata = refl }
+named_by rows cols false false x y size = record { has_cols = refl; has_rows = refl; has_x = refl; has_y = refl; has_size = refl; has_nodata = refl }
+
+x_stands : (center : Bool) (value : List ℕ) → is_coordinate value ≡ true → may_stand (key_of (cond center (codes "xllcenter") (codes "xllcorner"))) value ≡ true
+unfolding key_of
+x_stands true value e = e
+x_stands false value e = e
+
+y_stands : (center : Bool) (value : List ℕ) → is_coordinate value ≡ true → may_stand (key_of (cond center (codes "yllcenter") (codes "yllcorner"))) value ≡ true
+unfolding key_of
+y_stands true value e = e
+y_stands false value e = e
+
+missing_stands : is_nodata (codes "1e31") ≡ true
+unfolding decimal_of
+missing_stands = refl
+
+written_side : (n : ℕ) → 0 < n → n ≤ 4194304 → side_of (decimal n) ≡ Some n
+unfolding side_of
+written_side n some few =
+    ap (option_and_then above_zero) (decimal_number 7 n (lit< tt) (omega (arith, few)) (omega (arith, few)))
+    ∙ ap (λ b. cond b (Some n) None) (lt-ltb 0 n some)
+
+pairs_stand : (rows cols : ℕ) (h : Head) → side_of (decimal rows) ≡ Some rows → side_of (decimal cols) ≡ Some cols → is_coordinate h.x ≡ true → is_coordinate h.y ≡ true → is_cell_size h.size ≡ true → list_all (λ kv. may_stand (key_of kv.0) kv.1) (head_pairs rows cols h) ≡ true
+unfolding key_of
+pairs_stand rows cols h r c x y size =
+    and_from _ _ (ap (λ (o : Option ℕ). is_some o) c) (and_from _ _ (ap (λ (o : Option ℕ). is_some o) r)
+    (and_from _ _ (x_stands h.x_center h.x x) (and_from _ _ (y_stands h.y_center h.y y)
+    (and_from _ _ size (and_from _ _ missing_stands refl)))))
+
+head_back : (pairs : List Pair) (rows cols : ℕ) (h : Head) → map (λ (p : Pair). (p.word.bytes, p.value.bytes)) pairs ≡ head_pairs rows cols h → side_of (decimal rows) ≡ Some rows → side_of (decimal cols) ≡ Some cols → is_coordinate h.x ≡ true → is_coordinate h.y ≡ true → is_cell_size h.size ≡ true → IsSize rows cols
+    → IsHead pairs rows cols h (codes "1e31")
+head_back pairs rows cols h e r c x y size within =
+    let n = named_by rows cols h.x_center h.y_center h.x h.y h.size in
+    let kvs = head_pairs rows cols h in
+    record {
+      valued = valued_words pairs kvs e (pairs_stand rows cols h r c x y size);
+      has_cols = ap (map side_of) (values_named Cols pairs kvs _ e n.has_cols) ∙ ap (λ o. o ∷ []) c;
+      has_rows = ap (map side_of) (values_named Rows pairs kvs _ e n.has_rows) ∙ ap (λ o. o ∷ []) r;
+      has_x = placed_named X pairs kvs _ e refl ∙ n.has_x;
+      has_y = placed_named Y pairs kvs _ e refl ∙ n.has_y;
+      has_size = values_named Size pairs kvs _ e n.has_size;
+      has_nodata = ap nodata_of (values_named Nodata pairs kvs _ e n.has_nodata);
+      within = within;
+    }
+
+-- ---- the cells
+
+-- a printed value stands for no missing cell
+value_there : (kind : Kind) (z : ℤ) → IsCell kind (Val z) → is_missing (codes "1e31") (printed_cell kind (Val z)) ≡ false
+value_there kind z is =
+    or_from _ _
+    (option_cases (decimal_of (printed_cell kind (Val z)))
+    (λ none. ap (λ o. both_decimals (decimal_of (codes "1e31")) o) none ∙ ap (λ o. both_decimals o None) decimal-missing)
+    (λ d found. ap (λ o. both_decimals (decimal_of (codes "1e31")) o) found ∙ ap (λ o. both_decimals o (Some d)) decimal-missing
+    ∙ false_from_ne_true (same_value missing_decimal d) (λ e.
+    let turned : same_value d missing_decimal ≡ true = (same_value-means d missing_decimal).1 (sym ((same_value-means missing_decimal d).0 e)) in
+    let apart : same_value d missing_decimal ≡ false = printed-not_missing kind z d is found in absurd (cc))))
+    refl
+
+cell_back : (kind : Kind) (cell : Cell) → IsCell kind cell → cell_of kind (codes "1e31") (printed_cell kind cell) ≡ Ok cell
+cell_back kind Mv is = sym (cell_missing kind (codes "1e31") (codes "1e31") (nodata_missing (codes "1e31") missing_stands))
+cell_back kind (Val z) is = sym (cell_there kind (codes "1e31") (printed_cell kind (Val z)) (value_there kind z is)) ∙ printed-back kind z is
+
+cells_back : (kind : Kind) (cells : List Cell) (ts : List Token) → All (IsCell kind) cells → map (λ (t : Token). t.bytes) ts ≡ map (printed_cell kind) cells → map (λ (t : Token). cell_of kind (codes "1e31") t.bytes) ts ≡ map (λ (c : Cell). Ok c) cells
+cells_back kind [] [] are e = refl
+cells_back kind [] (t ∷ ts) are e = absurd (cc)
+cells_back kind (cell ∷ cells) [] are e = absurd (cc)
+cells_back kind (cell ∷ cells) (t ∷ ts) are e =
+    let first : cell_of kind (codes "1e31") t.bytes ≡ Ok cell = ap (cell_of kind (codes "1e31")) (head_is _ _ _ _ e) ∙ cell_back kind cell (All-head (IsCell kind) cell cells are) in
+    ap (λ r. r ∷ map (λ (u : Token). cell_of kind (codes "1e31") u.bytes) ts) first ∙ ap (λ rs. Ok cell ∷ rs) (cells_back kind cells ts (All-tail (IsCell kind) cell cells are) (tail_is _ _ _ _ e))
+
+-- a printed cell is no key word, for it is a decimal
+no_word : (c : ℕ) (cs text : List ℕ) → IsDecimalText text → 64 < to_ascii_lowercase c → is_word (c ∷ cs) text ≡ false
+no_word c cs text d letter = false_from_ne_true (is_word (c ∷ cs) text) (λ e.
+    let nothing : Option Decimal = None in
+    let bad : is_some nothing ≡ true = sym (ap (λ (o : Option Decimal). is_some o) (word_none c cs text letter e)) ∙ some-from_text text d in
+    absurd (cc))
+
+key_none : (word : List ℕ) → IsDecimalText word → key_of word ≡ None
+unfolding key_of
+key_none word d = rw (
+  no_word 110 (99 ∷ 111 ∷ 108 ∷ 115 ∷ []) word d (lit< tt),
+  no_word 110 (114 ∷ 111 ∷ 119 ∷ 115 ∷ []) word d (lit< tt),
+  or_from _ _ (no_word 120 (108 ∷ 108 ∷ 99 ∷ 111 ∷ 114 ∷ 110 ∷ 101 ∷ 114 ∷ []) word d (lit< tt)) (no_word 120 (108 ∷ 108 ∷ 99 ∷ 101 ∷ 110 ∷ 116 ∷ 101 ∷ 114 ∷ []) word d (lit< tt)),
+  or_from _ _ (no_word 121 (108 ∷ 108 ∷ 99 ∷ 111 ∷ 114 ∷ 110 ∷ 101 ∷ 114 ∷ []) word d (lit< tt)) (no_word 121 (108 ∷ 108 ∷ 99 ∷ 101 ∷ 110 ∷ 116 ∷ 101 ∷ 114 ∷ []) word d (lit< tt)),
+  no_word 99 (101 ∷ 108 ∷ 108 ∷ 115 ∷ 105 ∷ 122 ∷ 101 ∷ []) word d (lit< tt),
+  no_word 78 (79 ∷ 68 ∷ 65 ∷ 84 ∷ 65 ∷ 95 ∷ 118 ∷ 97 ∷ 108 ∷ 117 ∷ 101 ∷ []) word d (lit< tt),
+) refl
+
+cells_end : (kind : Kind) (cells : List Cell) (ts : List Token) → All (IsCell kind) cells → map (λ (t : Token). t.bytes) ts ≡ map (printed_cell kind) cells → ends_pairs ts ≡ true
+cells_end kind [] [] are e = refl
+cells_end kind [] (t ∷ ts) are e = absurd (cc)
+cells_end kind (cell ∷ cells) [] are e = absurd (cc)
+cells_end kind (cell ∷ cells) (t ∷ ts) are e =
+    ap (λ w. is_none (key_of w)) (head_is _ _ _ _ e) ∙ ap (λ (o : Option Key). is_none o) (key_none (printed_cell kind cell) (printed-decimal kind cell (All-head (IsCell kind) cell cells are)))
 
 -- ---- the grid
 
@@ -81,24 +322,27 @@ one_of_many : (rows cols : ℕ) → 0 < rows → cols ≤ rows * cols
 one_of_many zero cols some = absurd (omega (arith, some))
 one_of_many (suc rows) cols some = omega arith
 
-pub written_grids_read_back : WrittenGridsReadBack
-unfolding written_plain
-written_grids_read_back grid values =
+grid_back : (kind : Kind) (grid : Grid) → AreGridValues kind grid → IsGrid kind (text_of kind grid) grid
+unfolding written_grid
+grid_back kind grid values =
     let within = values.within in
     let few_cols : grid.cols ≤ 4194304 = omega (arith, one_of_many grid.rows grid.cols within.some_rows, within.few) in
     let few_rows : grid.rows ≤ 4194304 = omega (arith, one_of_many grid.cols grid.rows within.some_cols, mul_comm grid.rows grid.cols, within.few) in
-    let cols : grid.cols < 2 ^ 64 = omega arith in
-    let rows : grid.rows < 2 ^ 64 = omega arith in
-    let head = head_words grid.rows grid.cols grid.head (row_lines Scalar grid.rows grid.cols grid.cells) rows cols values.head in
+    let words = head_words grid.rows grid.cols grid.head (row_lines kind grid.rows grid.cols grid.cells) (map (printed_cell kind) grid.cells) (omega (arith, few_rows)) (omega (arith, few_cols)) values.x values.y values.size (rows_words kind grid.rows grid.cols grid.cells values.cells values.count) in
+    let s = split_of (head_pairs grid.rows grid.cols grid.head) (map (printed_cell kind) grid.cells) (tokens (text_of kind grid)) (words.found 0) in
+    let head = head_back s.pairs grid.rows grid.cols grid.head s.front (written_side grid.rows within.some_rows few_rows) (written_side grid.cols within.some_cols few_cols) values.x values.y values.size within in
     record {
-      cols_word = decimal grid.cols;
-      rows_word = decimal grid.rows;
-      cell_words = map (printed_cell Scalar) grid.cells;
-      words = head ∙ ap (λ ts. codes "ncols" ∷ decimal grid.cols ∷ codes "nrows" ∷ decimal grid.rows ∷ codes "xllcorner" ∷ grid.head.x ∷ codes "yllcorner" ∷ grid.head.y ∷ codes "cellsize" ∷ grid.head.size ∷ ts) (rows_words grid.rows grid.cols grid.cells values.cells values.count);
-      cols = decimal_number 7 grid.cols (lit< tt) (omega arith) cols;
-      rows = decimal_number 7 grid.rows (lit< tt) (omega arith) rows;
-      within = within;
-      head = values.head;
+      pairs = s.pairs;
+      cell_tokens = s.rest;
+      nodata = codes "1e31";
+      parts = record { parts = s.parts; keyed = keyed_of s.pairs head.valued };
+      ended = cells_end kind grid.cells s.rest values.cells s.back;
+      head = head;
       count = values.count;
-      cells = cells_back grid.cells values.cells;
+      cells = cells_back kind grid.cells s.rest values.cells s.back;
     }
+
+pub written_grids_read_back : WrittenGridsReadBack
+written_grids_read_back kind grid values =
+    let back = grid_back kind grid values in
+    (back, λ other is. ok_is _ _ (sym (grid_is kind (text_of kind grid) other is) ∙ grid_is kind (text_of kind grid) grid back))

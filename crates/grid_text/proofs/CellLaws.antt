@@ -1,63 +1,55 @@
 -- Cells that are read one after the other.
-use Rattle.std.proofs.Common.{◌≡◌, ℕ, suc, ◌+◌, ◌-◌, ◌<◌, ◌≤◌, List, [], ◌∷◌, ◌++◌, Option, Some, None, refl, sym, ap, ◌∙◌, append_assoc, arith}
-use Rattle.std.specs.Option.{option_map, option_and_then}
+use Rattle.std.proofs.Common.{◌≡◌, ℕ, suc, ◌+◌, ◌-◌, ◌<◌, ◌≤◌, List, [], ◌∷◌, ◌++◌, Result, Ok, Err, refl, sym, ap, ◌∙◌, append_assoc, arith}
 use Rattle.std.proofs.lemmas.List.{append-nil}
+use Rattle.cell_values.specs.declared.kind.Kind.{Kind}
 use Rattle.cell_values.specs.declared.cell.Cell.{Cell}
-use Rattle.grid_text.specs.Plain.{cell_of, cells_of}
+use Rattle.grid_text.specs.declared.fault.GridFault.{GridFault}
+use Rattle.grid_text.specs.declared.fault.GridKind.TheVariants as kinds
+use Rattle.grid_text.specs.Tokens.{Token}
+use Rattle.grid_text.specs.Form.{cell_of}
+use Rattle.grid_text.specs.Faults.{fault_at}
+use Rattle.grid_text.specs.Reading.{◌>>=◌, told_at, cells_from}
 
 -- cells that were read, before those that are still read
-abbrev pub before : List Cell → Option (List Cell) → Option (List Cell)
-before front read = option_map (λ cells. front ++ cells) read
+abbrev pub before : List Cell → Result (List Cell) GridFault → Result (List Cell) GridFault
+before front read = read >>= λ cells. Ok (front ++ cells)
 
--- one more of them
-abbrev with_first : Cell → Option (List Cell) → Option (List Cell)
-with_first cell read = option_map (λ cells. cell ∷ cells) read
-
-regroup : (front : List Cell) (cell : Cell) (read : Option (List Cell)) → before front (with_first cell read) ≡ before (front ++ cell ∷ []) read
-regroup front cell None = refl
-regroup front cell (Some cells) = ap Some (sym (append_assoc front (cell ∷ []) cells))
+regroup : (front : List Cell) (cell : Cell) (read : Result (List Cell) GridFault) → before front (read >>= λ cells. Ok (cell ∷ cells)) ≡ before (front ++ cell ∷ []) read
+regroup front cell (Ok cells) = ap (λ (cs : List Cell). Ok cs) (sym (append_assoc front (cell ∷ []) cells))
+regroup front cell (Err f) = refl
 
 left : (count i : ℕ) → i < count → count - i ≡ suc (count - (i + 1))
 left count i lt = omega arith
 
-pub cell_read : (front : List Cell) (count i : ℕ) (words more : List (List ℕ)) (word : List ℕ) (cell : Cell) (total : Option (List Cell)) → i < count → words ≡ word ∷ more → Some cell ≡ cell_of word
-    → before front (cells_of (count - i) words) ≡ total → before (front ++ cell ∷ []) (cells_of (count - (i + 1)) more) ≡ total
-cell_read front count i words more word cell total lt first read so_far =
-    sym (regroup front cell (cells_of (count - (i + 1)) more))
-    ∙ ap (λ o. before front (option_and_then (λ c. with_first c (cells_of (count - (i + 1)) more)) o)) read
-    ∙ ap (λ n. before front (cells_of n (word ∷ more))) (sym (left count i lt))
-    ∙ ap (λ ws. before front (cells_of (count - i) ws)) (sym first)
-    ∙ so_far
-
-pub cell_refused : (front : List Cell) (count i : ℕ) (words more : List (List ℕ)) (word : List ℕ) (total : Option (List Cell)) → i < count → words ≡ word ∷ more → None ≡ cell_of word
-    → before front (cells_of (count - i) words) ≡ total → total ≡ None
-cell_refused front count i words more word total lt first read so_far = sym (
-    ap (λ o. before front (option_and_then (λ c. with_first c (cells_of (count - (i + 1)) more)) o)) read
-    ∙ ap (λ n. before front (cells_of n (word ∷ more))) (sym (left count i lt))
-    ∙ ap (λ ws. before front (cells_of (count - i) ws)) (sym first)
-    ∙ so_far)
-
-pub cell_missing : (front : List Cell) (count i : ℕ) (words : List (List ℕ)) (total : Option (List Cell)) → i < count → words ≡ []
-    → before front (cells_of (count - i) words) ≡ total → total ≡ None
-cell_missing front count i words total lt ended so_far = sym (
-    ap (λ n. before front (cells_of n [])) (sym (left count i lt))
-    ∙ ap (λ ws. before front (cells_of (count - i) ws)) (sym ended)
-    ∙ so_far)
-
 none_left : (count i : ℕ) → count ≤ i → count - i ≡ 0
 none_left count i le = omega arith
 
-pub cell_beyond : (front : List Cell) (count i : ℕ) (words more : List (List ℕ)) (word : List ℕ) (total : Option (List Cell)) → count ≤ i → words ≡ word ∷ more
-    → before front (cells_of (count - i) words) ≡ total → total ≡ None
-cell_beyond front count i words more word total le first so_far = sym (
-    ap (λ n. before front (cells_of n (word ∷ more))) (sym (none_left count i le))
-    ∙ ap (λ ws. before front (cells_of (count - i) ws)) (sym first)
-    ∙ so_far)
+module _ (kind : Kind) (nodata : List ℕ) (text_len : ℕ) (front : List Cell) (count i : ℕ) (words : List Token) (total : Result (List Cell) GridFault) (so_far : before front (cells_from kind nodata text_len (count - i) words) ≡ total) where
+  -- what is left to read
+  so_far_at : (n : ℕ) (ts : List Token) → count - i ≡ n → words ≡ ts → before front (cells_from kind nodata text_len n ts) ≡ total
+  so_far_at n ts many are = sym (ap (λ k. before front (cells_from kind nodata text_len k words)) many ∙ ap (λ us. before front (cells_from kind nodata text_len n us)) are) ∙ so_far
 
-pub cells_done : (front : List Cell) (count i : ℕ) (words : List (List ℕ)) (total : Option (List Cell)) → count ≤ i → words ≡ []
-    → before front (cells_of (count - i) words) ≡ total → total ≡ Some front
-cells_done front count i words total le ended so_far = sym (
-    ap Some (sym (append-nil front))
-    ∙ ap (λ n. before front (cells_of n [])) (sym (none_left count i le))
-    ∙ ap (λ ws. before front (cells_of (count - i) ws)) (sym ended)
-    ∙ so_far)
+  pub cell_read_on : (token : Token) (more : List Token) (cell : Cell) → i < count → words ≡ token ∷ more → told_at token.at (cell_of kind nodata token.bytes) ≡ Ok cell → before (front ++ cell ∷ []) (cells_from kind nodata text_len (count - (i + 1)) more) ≡ total
+  unfolding cells_from
+  cell_read_on token more cell lt first told =
+      sym (regroup front cell (cells_from kind nodata text_len (count - (i + 1)) more))
+      ∙ sym (ap (λ r. before front (r >>= λ c. cells_from kind nodata text_len (count - (i + 1)) more >>= λ cells. Ok (c ∷ cells))) told)
+      ∙ so_far_at (suc (count - (i + 1))) (token ∷ more) (left count i lt) first
+
+  pub cell_refused : (token : Token) (more : List Token) (f : GridFault) → i < count → words ≡ token ∷ more → told_at token.at (cell_of kind nodata token.bytes) ≡ Err f → total ≡ Err f
+  unfolding cells_from
+  cell_refused token more f lt first told =
+      sym (so_far_at (suc (count - (i + 1))) (token ∷ more) (left count i lt) first)
+      ∙ ap (λ r. before front (r >>= λ c. cells_from kind nodata text_len (count - (i + 1)) more >>= λ cells. Ok (c ∷ cells))) told
+
+  pub cell_missing : i < count → words ≡ [] → total ≡ Err (fault_at kinds.Count text_len)
+  unfolding cells_from
+  cell_missing lt none = sym (so_far_at (suc (count - (i + 1))) [] (left count i lt) none)
+
+  pub cell_beyond : (token : Token) (more : List Token) → count ≤ i → words ≡ token ∷ more → total ≡ Err (fault_at kinds.Count token.at)
+  unfolding cells_from
+  cell_beyond token more le first = sym (so_far_at 0 (token ∷ more) (none_left count i le) first)
+
+  pub cells_done : count ≤ i → words ≡ [] → total ≡ Ok front
+  unfolding cells_from
+  cells_done le none = sym (so_far_at 0 [] (none_left count i le) none) ∙ ap (λ (cs : List Cell). Ok cs) (append-nil front)

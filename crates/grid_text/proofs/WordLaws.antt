@@ -1,4 +1,4 @@
--- Written numbers and cells, as words that are read again.
+-- Written numbers, as words that are read again.
 use Rattle.std.proofs.Common.{◌≡◌, ◌≢◌, ℕ, suc, ◌*◌, ◌/◌, ◌%◌, ◌^◌, ◌<◌, ◌≤◌, true, false, cond, eqb, ◌&&◌, List, [], ◌∷◌, length, Some, pos, negsuc, neg_ℤ, lit<, refl, sym, ap, subst, ◌∙◌, arith}
 use Rattle.std.specs.Prelude.{nat_lt, nat_le, decimal}
 use Rattle.std.specs.List.{list_all}
@@ -15,9 +15,7 @@ use Rattle.cell_values.specs.declared.cell.Cell.TheVariants.{Mv, Val}
 use Rattle.cell_values.specs.declared.kind.Kind.TheVariants.{Scalar}
 use Rattle.cell_values.specs.Printed.{size_text, printed_cell}
 use Rattle.grid_text.specs.Number.{is_digit, number_of}
-use Rattle.grid_text.specs.Tokens.{is_token_byte}
-use Rattle.grid_text.specs.Plain.{cell_below_zero, cell_from_zero, cell_of}
-use Rattle.grid_text.specs.Written.{IsPlainCell}
+use Rattle.grid_text.specs.Steps.{is_token_byte}
 use Rattle.grid_text.proofs.DigitLaws.{is_digit_byte}
 use Rattle.grid_text.proofs.TokenLaws.{IsToken}
 
@@ -74,43 +72,3 @@ decimal_number most n some within small =
     let d = decimal_digits n small in
     let len : length (decimal n) ≤ most = length-decimal-le most n some within small in
     rw (lt-ltb 0 (length (decimal n)) d.some, le-leb (length (decimal n)) most len, d.digits) (ap Some (decimal_is_IsNumeral n small).1)
-
--- ---- a written cell
-
-whole_text : (n : ℕ) → size_text (n * 1000000) ≡ decimal n
-whole_text n =
-    let whole : n * 1000000 / 1000000 ≡ n = mul-div_cancel n (lit< tt) in
-    let rest : n * 1000000 % 1000000 ≡ 0 = omega (arith, whole) in
-    rw (whole, rest) (append-nil (decimal n))
-
--- digits write a cell from zero on
-digits_cell : (word : List ℕ) (n : ℕ) → number_of 12 word ≡ Some n → cell_of word ≡ Some (cell_from_zero n)
-digits_cell [] n e = absurd (cc)
-digits_cell (b ∷ bs) n e =
-    let d = (digits_of_number 12 (b ∷ bs) n e).digits in
-    let low = digit_low b (and_parts (is_digit b) (list_all is_digit bs) d).0 in
-    ap (λ t. cond t (option_map cell_below_zero (number_of 12 bs)) (option_map cell_from_zero (number_of 12 (b ∷ bs)))) (other b 45 low (lit< tt))
-    ∙ ap (option_map cell_from_zero) e
-
-minus_token : (word : List ℕ) → IsToken word → IsToken (45 ∷ word)
-minus_token word t = record { some = omega arith; bytes = t.bytes }
-
-not_missing : (n a : ℕ) → suc a ≡ n * 1000000 → negsuc a ≢ neg_ℤ (pos 9999000000) → cell_below_zero n ≡ Val (negsuc a)
-not_missing n a e apart =
-    let kept : eqb n 9999 ≡ false = ne_eqb n 9999 (λ same. apart (ap (λ k. neg_ℤ (pos k)) (e ∙ ap (λ m. m * 1000000) same))) in
-    ap (λ t. cond t Mv (Val (neg_ℤ (pos (n * 1000000))))) kept ∙ ap (λ k. Val (neg_ℤ (pos k))) (sym e)
-
-pub plain_cell : (cell : Cell) → IsPlainCell cell → IsToken (printed_cell Scalar cell) × (cell_of (printed_cell Scalar cell) ≡ Some cell)
-plain_cell Mv plain = absurd plain
-plain_cell (Val (pos a)) plain =
-    let n = plain.0 in
-    let small : n < 2 ^ 64 = omega (arith, plain.2) in
-    let text : printed_cell Scalar (Val (pos a)) ≡ decimal n = ap (λ t. cond t (45 ∷ size_text a) (size_text a)) (le-ltb a 0 (omega arith)) ∙ ap size_text plain.1 ∙ whole_text n in
-    subst (λ (word : List ℕ). IsToken word × (cell_of word ≡ Some (Val (pos a)))) (sym text)
-    (digits_token (decimal n) (decimal_digits n small), digits_cell (decimal n) n (decimal_number 12 n (lit< tt) plain.2 small) ∙ ap (λ k. Some (Val (pos k))) (sym plain.1))
-plain_cell (Val (negsuc a)) plain =
-    let n = plain.0 in
-    let small : n < 2 ^ 64 = omega (arith, plain.2) in
-    let text : printed_cell Scalar (Val (negsuc a)) ≡ 45 ∷ decimal n = ap (λ k. 45 ∷ size_text k) plain.1 ∙ ap (λ w. 45 ∷ w) (whole_text n) in
-    subst (λ (word : List ℕ). IsToken word × (cell_of word ≡ Some (Val (negsuc a)))) (sym text)
-    (minus_token (decimal n) (digits_token (decimal n) (decimal_digits n small)), ap (option_map cell_below_zero) (decimal_number 12 n (lit< tt) plain.2 small) ∙ ap Some (not_missing n a plain.1 plain.3))

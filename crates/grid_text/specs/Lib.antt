@@ -1,5 +1,8 @@
 pub mod Tokens
 pub mod Number
-pub mod Plain
-pub mod Written
+pub mod Key
+pub mod Form
+pub mod Faults
 pub mod Reading
+pub mod Steps
+pub mod Written

@@ -1,14 +1,14 @@
 -- The one text of a grid.
-use Rattle.std.specs.Prelude.{◌≡◌, ◌≢◌, ℕ, zero, suc, ◌*◌, ◌^◌, ◌<◌, List, [], ◌∷◌, ◌++◌, length, take, drop, codes, decimal, pos, neg_ℤ, unsigned_abs, if◌then◌else◌}
+use Rattle.std.specs.Prelude.{◌≡◌, ℕ, zero, suc, ◌*◌, Bool, true, List, [], ◌∷◌, ◌++◌, length, take, drop, codes, decimal, if◌then◌else◌}
 use Rattle.std.specs.List.{All}
 use Rattle.cell_values.specs.declared.cell.Cell.{Cell}
-use Rattle.cell_values.specs.declared.cell.Cell.TheVariants.{Mv, Val}
 use Rattle.cell_values.specs.declared.kind.Kind.{Kind}
-use Rattle.cell_values.specs.declared.kind.Kind.TheVariants.{Scalar}
+use Rattle.cell_values.specs.Kinds.{IsCell}
 use Rattle.cell_values.specs.Printed.{printed_cell}
 use Rattle.grid_text.specs.declared.grid.Grid.{Grid}
 use Rattle.grid_text.specs.declared.grid.Head.{Head}
-use Rattle.grid_text.specs.Plain.{IsPlainHead, IsPlainSize, IsPlainGrid}
+use Rattle.grid_text.specs.Key.{is_coordinate, is_cell_size}
+use Rattle.grid_text.specs.Form.{IsSize, IsGrid}
 
 -- a line of a key word and its value
 abbrev pub key_line : List ℕ → List ℕ → List ℕ
@@ -42,22 +42,19 @@ row_lines kind (suc rows) cols cells = row_line kind (take cols cells) ++ row_li
 unfoldable pub written_grid : Kind → ℕ → ℕ → Head → List Cell → List ℕ
 written_grid kind rows cols head cells = head_lines rows cols head ++ (key_line (codes "NODATA_value") (codes "1e31") ++ row_lines kind rows cols cells)
 
--- the same without the line of the missing value, which the plain form has not
-unfoldable pub written_plain : ℕ → ℕ → Head → List Cell → List ℕ
-written_plain rows cols head cells = head_lines rows cols head ++ row_lines Scalar rows cols cells
+-- the text of the values of a grid
+abbrev pub text_of : Kind → Grid → List ℕ
+text_of kind grid = written_grid kind grid.rows grid.cols grid.head grid.cells
 
--- a whole number of at most 12 digits other than -9999, in millionths
-abbrev pub IsPlainCell : Cell → Type 0
-IsPlainCell Mv = ⊥
-IsPlainCell (Val z) = (size : ℕ) × (unsigned_abs z ≡ size * 1000000) × (size < 10 ^ 12) × (z ≢ neg_ℤ (pos 9999000000))
-
--- values that the plain form can write
-pub record ArePlainValues (grid : Grid) : Type 0 where
-  pub within : IsPlainSize grid.rows grid.cols
-  pub head : IsPlainHead grid.head
+-- values that a grid of the kind can have
+pub record AreGridValues (kind : Kind) (grid : Grid) : Type 0 where
+  pub within : IsSize grid.rows grid.cols
+  pub x : is_coordinate grid.head.x ≡ true
+  pub y : is_coordinate grid.head.y ≡ true
+  pub size : is_cell_size grid.head.size ≡ true
   pub count : length grid.cells ≡ grid.rows * grid.cols
-  pub cells : All IsPlainCell grid.cells
+  pub cells : All (IsCell kind) grid.cells
 
--- values that the plain form can write are those that their text is read as
+-- the text of such values is a grid with exactly these values, and with no others
 abbrev pub WrittenGridsReadBack : Type 0
-WrittenGridsReadBack = (grid : Grid) → ArePlainValues grid → IsPlainGrid (written_plain grid.rows grid.cols grid.head grid.cells) grid
+WrittenGridsReadBack = (kind : Kind) (grid : Grid) → AreGridValues kind grid → IsGrid kind (text_of kind grid) grid × ((other : Grid) → IsGrid kind (text_of kind grid) other → other ≡ grid)

@@ -1,21 +1,25 @@
 //! Grid texts: the ASCII grids of ESRI, read and written exactly.
 //!
-//! A text is a row of tokens between blanks: key words with their values, which say how many rows and
-//! columns the grid has and where it lies, and then the cells. What is read is the plain form: five
-//! key words in a fixed order, and whole numbers. What is written has a line for the missing value
-//! too; without that line it is read back as what was written.
+//! A text is a row of tokens between blanks: pairs of a key word and its value, which say how many
+//! rows and columns the grid has, where it lies and which value stands for a missing cell, and then
+//! the cells row by row from the north. A text that is no grid of the asked kind is refused with its
+//! first fault and the byte place of it. What is written is read back as what was written.
 #![tactic(auto)]
 
+mod cells;
 mod digits;
 mod fault;
 mod grid;
+mod head;
+mod key;
 mod reader;
 mod tokens;
+mod values;
 mod writer;
 
-pub use fault::ReadGrid;
+pub use fault::{GridFault, GridKind, ReadGrid};
 pub use grid::{Grid, Head};
-pub use reader::{plain_grids_are_read, read_grid};
+pub use reader::{MAX_TEXT, first_faults_are_told, grids_are_read, read_grid};
 pub use writer::{write_grid, written_grids_read_back};
 
 #[cfg(test)]

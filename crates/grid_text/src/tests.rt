@@ -1,135 +1,143 @@
 use super::*;
 use cell_values::{Cell, Kind, Word};
-use std::process::Abort;
 use std::test::Fail;
 
-const HEAD: &str = "ncols 1 nrows 1 xllcorner 0 yllcorner 0 cellsize 1";
-
-// The one cell of the text that both parts make, and nothing where it is not of the plain form.
-fn one_cell<R: Abort + AllocGlobal>(rt: &R, head: &str, cells: &str) -> Result<Option<Cell>, Fail> {
-    let mut text = Vec::from_slice(rt.alloc(), head.as_bytes())?;
-    text.push(b' ')?;
-    text.extend_from_slice(cells.as_bytes())?;
-    assert!(rt; text.len() < 1000);
-    match read_grid(rt.alloc(), Kind::Scalar, text.as_slice()) {
-        Ok(grid) => {
-            assert_eq!(rt; (grid.rows, grid.cols), (1, 1));
-            Ok(grid.cells.as_slice().first().copied())
-        }
-        Err(error) => {
-            assert_eq!(rt; error, ReadGrid::Unbuilt);
-            Ok(None)
-        }
-    }
-}
-
+// The fault of a text that is no grid of two cells.
 #[test]
-fn reads_cells(rt: HostRuntime) -> Result<(), Fail> {
-    for (cells, want) in [
-        ("5", Some(Cell::Val(5_000_000))),
-        ("\t-5\r\n", Some(Cell::Val(-5_000_000))),
-        ("-0", Some(Cell::Val(0))),
-        ("007", Some(Cell::Val(7_000_000))),
-        ("9999", Some(Cell::Val(9_999_000_000))),
-        ("-9998", Some(Cell::Val(-9_998_000_000))),
-        ("-9999", Some(Cell::Mv)),
-        ("-009999", Some(Cell::Mv)),
-        ("999999999999", Some(Cell::Val(999_999_999_999_000_000))),
-        ("-999999999999", Some(Cell::Val(-999_999_999_999_000_000))),
-        ("1000000000000", None),
-        ("0000000000001", None),
-        ("-1000000000000", None),
-        ("+5", None),
-        ("5.0", None),
-        ("1e3", None),
-        ("-", None),
-        ("--5", None),
-        ("5a", None),
-        ("5\x0b", None),
-        ("5 6", None),
-        ("5 # five", None),
-        ("", None),
+fn tells_the_first_fault(rt: HostRuntime) -> Result<(), Fail> {
+    let boolean = Kind::Boolean;
+    let scalar = Kind::Scalar;
+    let head = GridKind::Head;
+    for (kind, text, fault, at) in [
+        (scalar, "ncols 2 nrows 1 NCols 2", head, 16),
+        (scalar, "xllcorner 0 xllcenter 0", head, 12),
+        (scalar, "ncols 2 ncols", head, 8),
+        (scalar, "ncols 0", head, 6),
+        (scalar, "nrows 00000001", head, 6),
+        (scalar, "ncols nrows 1", head, 6),
+        (scalar, "yllcorner 0x1", head, 10),
+        (scalar, "cellsize 0.0e3", head, 9),
+        (scalar, "cellsize -1", head, 9),
+        (scalar, "NODATA_value none", head, 13),
+        (scalar, "ncols 4194305", head, 6),
+        (scalar, "nrows 2048 cellsize 1 ncols 2049", head, 28),
+        (scalar, "", head, 0),
+        (
+            scalar,
+            "ncols 2 nrows 1 xllcorner 0 yllcorner 0 7 8",
+            head,
+            40,
+        ),
+        (
+            scalar,
+            "ncols 2 nrows 1 xllcorner 0 yllcorner 0 \n",
+            head,
+            41,
+        ),
+        (
+            scalar,
+            "ncols 2 nrows 1 xllcorner 0 yllcorner 0 cellsize 1 NODATA_value",
+            head,
+            63,
+        ),
+        (
+            scalar,
+            "ncols 2 nrows 1 xllcorner 0 yllcorner 0 cellsize 1 7 x",
+            GridKind::BadNumber,
+            53,
+        ),
+        (
+            scalar,
+            "ncols 2 nrows 1 xllcorner 0 yllcorner 0 cellsize 1 nan",
+            GridKind::BadNumber,
+            51,
+        ),
+        (
+            boolean,
+            "ncols 2 nrows 1 xllcorner 0 yllcorner 0 cellsize 1 2 x",
+            GridKind::Range,
+            51,
+        ),
+        (
+            boolean,
+            "ncols 2 nrows 1 xllcorner 0 yllcorner 0 cellsize 1 0 0.5",
+            GridKind::Range,
+            53,
+        ),
+        (
+            scalar,
+            "ncols 2 nrows 1 xllcorner 0 yllcorner 0 cellsize 1 7 8 x",
+            GridKind::Count,
+            55,
+        ),
+        (
+            scalar,
+            "ncols 2 nrows 1 xllcorner 0 yllcorner 0 cellsize 1 7\n",
+            GridKind::Count,
+            53,
+        ),
     ] {
-        assert_eq!(rt; one_cell(&rt, HEAD, cells)?, want, "for {cells}");
+        assert!(rt; text.len() < 100);
+        let read = read_grid(rt.alloc(), kind, text.as_bytes());
+        assert_eq!(rt;
+            read.err(),
+            Some(ReadGrid::Fault(GridFault { kind: fault, at })),
+            "for {text}"
+        );
     }
     Ok(())
 }
 
+// The cells of a text that is a grid of two cells.
 #[test]
-fn reads_heads(rt: HostRuntime) -> Result<(), Fail> {
-    for (head, is_plain) in [
-        (HEAD, true),
+fn reads_grids(rt: HostRuntime) -> Result<(), Fail> {
+    let half = Cell::Val(500_000);
+    for (kind, text, want) in [
         (
-            "\r\nncols\t1\rnrows\n1 xllcorner 0\r\nyllcorner 0\r\ncellsize\t\t1\r\n",
-            true,
+            Kind::Scalar,
+            "ncols 2 nrows 1 xllcorner 0 yllcorner 0 cellsize 1 .5 -9999",
+            [half, Cell::Mv],
         ),
         (
-            "ncols 0000001 nrows 01 xllcorner 999999999999 yllcorner 000 cellsize 000000000001",
-            true,
+            Kind::Scalar,
+            "CELLSIZE +1e1\r\nYllCenter 0 xllCENTER -.5e-3\tNROWS 0001 ncols 2\r\n.5\r\n-9.999E3\r\n",
+            [half, Cell::Mv],
         ),
         (
-            "ncols 00000001 nrows 1 xllcorner 0 yllcorner 0 cellsize 1",
-            false,
-        ),
-        ("ncols 0 nrows 1 xllcorner 0 yllcorner 0 cellsize 1", false),
-        ("ncols 1 nrows 0 xllcorner 0 yllcorner 0 cellsize 1", false),
-        (
-            "ncols 4194305 nrows 1 xllcorner 0 yllcorner 0 cellsize 1",
-            false,
+            Kind::Scalar,
+            "nodata_VALUE -3.4028234663852886e+38 ncols 1 nrows 2 xllcorner 0 yllcorner 0 cellsize 1\n5e-1\n-340282346638528860000000000000000000000",
+            [half, Cell::Mv],
         ),
         (
-            "ncols 1 nrows 1 xllcorner 1000000000000 yllcorner 0 cellsize 1",
-            false,
+            Kind::Scalar,
+            "NODATA_value NaN ncols 1 nrows 2 xllcorner 0 yllcorner 0 cellsize 1 nAN 0.50",
+            [Cell::Mv, half],
         ),
-        ("ncols 1 nrows 1 xllcorner -1 yllcorner 0 cellsize 1", false),
         (
-            "ncols 1 nrows 1 xllcorner 0 yllcorner 0.5 cellsize 1",
-            false,
+            Kind::Nominal,
+            "NODATA_value -0 ncols 1 nrows 2 xllcorner 0 yllcorner 0 cellsize 1 0.0 -9999",
+            [Cell::Mv, Cell::Val(-9999)],
         ),
-        ("ncols 1 nrows 1 xllcorner 0 yllcorner 0 cellsize 0", false),
         (
-            "ncols 1 nrows 1 xllcorner 0 yllcorner 0 cellsize 000",
-            false,
+            Kind::Ldd,
+            "ncols 2 nrows 1 xllcorner 0 yllcorner 0 cellsize 1 5.0 -9999.0",
+            [Cell::Val(5), Cell::Mv],
         ),
-        ("NCOLS 1 nrows 1 xllcorner 0 yllcorner 0 cellsize 1", false),
-        ("nrows 1 ncols 1 xllcorner 0 yllcorner 0 cellsize 1", false),
-        ("ncols 1 nrows 1 xllcenter 0 yllcorner 0 cellsize 1", false),
         (
-            "ncols 1 nrows 1 xllcorner 0 yllcorner 0 cellsize 1 NODATA_value -9999",
-            false,
+            Kind::Directional,
+            "ncols 2 nrows 1 xllcorner 0 yllcorner 0 cellsize 1 0.5 359.999999",
+            [half, Cell::Val(359_999_999)],
         ),
-        ("ncols 1 nrows 1 xllcorner 0 yllcorner 0", false),
-        ("", false),
     ] {
-        assert_eq!(rt; one_cell(&rt, head, "5")?.is_some(), is_plain, "for {head}");
-    }
-    Ok(())
-}
-
-// The text of a grid of zeros with 2,048 rows.
-fn zeros<R: AllocGlobal>(rt: &R, cols: &str, count: u32) -> Result<Vec<u8>, Fail> {
-    let mut text = Vec::from_slice(rt.alloc(), b"ncols ")?;
-    text.extend_from_slice(cols.as_bytes())?;
-    text.extend_from_slice(b" nrows 2048 xllcorner 0 yllcorner 0 cellsize 1")?;
-    for _ in 0..count {
-        text.extend_from_slice(b" 0")?;
-    }
-    Ok(text)
-}
-
-#[test]
-fn reads_the_most_cells(rt: HostRuntime) -> Result<(), Fail> {
-    for (cols, count, is_plain) in [("2048", 4_194_304, true), ("2049", 4_196_352, false)] {
-        let text = zeros(&rt, cols, count)?;
-        assert!(rt; text.len() < 10_000_000);
-        let read = read_grid(rt.alloc(), Kind::Scalar, text.as_slice());
-        assert_eq!(rt; read.is_ok(), is_plain);
+        assert!(rt; text.len() < 200);
+        let grid = read_grid(rt.alloc(), kind, text.as_bytes())?;
+        assert_eq!(rt; grid.cells.as_slice(), want.as_slice(), "for {text}");
     }
     Ok(())
 }
 
 #[test]
-fn writes_a_grid(rt: HostRuntime) -> Result<(), Fail> {
+fn reads_what_it_writes(rt: HostRuntime) -> Result<(), Fail> {
     let head = Head {
         x_center: true,
         y_center: false,
@@ -147,5 +155,13 @@ fn writes_a_grid(rt: HostRuntime) -> Result<(), Fail> {
     let want =
         "ncols 2\nnrows 2\nxllcenter -12.50\nyllcorner 0\ncellsize 1e2\nNODATA_value 1e31\n1.5 1e31\n-2 0\n";
     assert_eq!(rt; text.as_slice(), want.as_bytes());
+    assert!(rt; text.len() < 200);
+    let grid = read_grid(rt.alloc(), Kind::Scalar, text.as_slice())?;
+    assert_eq!(rt;
+        (grid.rows, grid.cols, grid.head.x_center, grid.head.y_center),
+        (2, 2, true, false)
+    );
+    assert_eq!(rt; grid.head.x.bytes(), b"-12.50".as_slice());
+    assert_eq!(rt; grid.cells.as_slice(), cells.as_slice());
     Ok(())
 }

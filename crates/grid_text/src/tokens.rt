@@ -1,8 +1,17 @@
 //! The tokens of a text, one after the other.
 
-ghost use Rattle.std.specs.Prelude.{◌≡◌, ◌≤◌, true, [], ◌∷◌, length, take, drop, MatchOption};
+ghost use Rattle.std.specs.Prelude.{◌≡◌, ◌<◌, ◌≤◌, ℕ, true, [], ◌∷◌, length, take, drop, MatchOption, IfSome};
 ghost use Rattle.std.specs.List.{list_all};
-ghost use Rattle.grid_text.specs.Tokens.{is_blank, is_token_byte, ends_token, IsEmptyOrToken, tokens};
+ghost use Rattle.grid_text.specs.Tokens.{is_blank, ends_token};
+ghost use Rattle.grid_text.specs.Steps.{is_token_byte, IsEmptyOrToken, tokens_left, token_view};
+
+/// A token of a text.
+#[derive(Clone, Copy)]
+pub struct Word<'a> {
+    /// The place of its first byte.
+    pub at: u64,
+    pub bytes: &'a [u8],
+}
 
 #[inline]
 fn blank(byte: u8) -> bool
@@ -14,7 +23,8 @@ fn blank(byte: u8) -> bool
 // The text from its first token on.
 #[inline]
 fn skip_blanks(text: &[u8]) -> &[u8]
-    ensures same { tokens result.now ≡ tokens text.now }
+    ensures shorter { length result.now ≤ length text.now }
+    ensures same { (text_len : ℕ) → length text.now ≤ text_len → tokens_left text_len result.now ≡ tokens_left text_len text.now }
     ensures at_token { IsEmptyOrToken result.now }
 {
     let mut rest = text;
@@ -42,17 +52,20 @@ fn run_len(text: &[u8]) -> usize
     text.len()
 }
 
-/// The first token and the text behind it.
+/// The first token of the last bytes of a text of this length, and the bytes behind it.
 #[inline]
-#[tactic(auto, using(crate::proofs::TokenLaws::token_at))]
-pub fn next_token(text: &[u8]) -> Option<(&[u8], &[u8])>
-    ensures { MatchOption result
-        (tokens text.now ≡ [])
-        (λ found. tokens text.now ≡ found.0.now ∷ tokens found.1.now) }
+pub fn next_token(text_len: usize, bytes: &[u8]) -> Option<(Word<'_>, &[u8])>
+    requires within { length bytes.now ≤ text_len }
+    ensures tokens { MatchOption result
+        (tokens_left text_len bytes.now ≡ [])
+        (λ found. tokens_left text_len bytes.now ≡ token_view found.0 ∷ tokens_left text_len found.1.now) }
+    ensures shorter { IfSome result (λ found. length found.1.now < length bytes.now) }
 {
-    let rest = skip_blanks(text);
+    let rest = skip_blanks(bytes);
     if rest.is_empty() {
         return None;
     }
-    Some(rest.split_at(run_len(rest)))
+    let at = (text_len - rest.len()) as u64;
+    let (bytes, behind) = rest.split_at(run_len(rest));
+    Some((Word { at, bytes }, behind))
 }

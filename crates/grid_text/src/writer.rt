@@ -1,7 +1,7 @@
 //! The writer of grid texts.
 
 ghost use Rattle.std.specs.Prelude.{◌≡◌, ◌*◌, ◌<◌, ◌≤◌, ◌++◌, length, decimal, OnOk, IfOk};
-ghost use Rattle.grid_text.specs.Plain.{IsPlainSize};
+ghost use Rattle.grid_text.specs.Form.{IsSize};
 ghost use Rattle.grid_text.specs.Written.{key_line, head_lines, row_line, written_grid, WrittenGridsReadBack};
 
 use crate::grid::Head;
@@ -67,7 +67,7 @@ pub fn write_grid(
     head: &Head,
     cells: &[Cell],
 ) -> Result<Vec<u8>, AllocError>
-    requires size { IsPlainSize rows cols }
+    requires size { IsSize rows cols }
     requires count { length cells.now ≡ rows * cols }
     ensures { IfOk result (λ text. text.items ≡ written_grid kind rows cols head.now cells.now) }
 {
@@ -84,8 +84,7 @@ pub fn write_grid(
     Ok(out)
 }
 
-/// A written text of values that the plain form can write, without its line of the missing value,
-/// is read back as exactly these values.
+/// A written text is read back as exactly the values that were written, and as no others.
 pub fn written_grids_read_back()
     ensures { WrittenGridsReadBack }
 {}

@@ -1,6 +1,6 @@
 use Rattle.std.proofs.Common.{◌≡◌, true, take}
 use Rattle.std.specs.List.{list_all}
-use Rattle.grid_text.specs.Tokens.{is_token_byte}
+use Rattle.grid_text.specs.Steps.{is_token_byte}
 use Rattle.grid_text.proofs.tokens.run_len.Given as goal
 
 -- no blank was met

@@ -1,0 +1,23 @@
+use Rattle.std.proofs.Common.{◌≡◌, true, false, Ok, sym, ◌∙◌, subst}
+use Rattle.cell_values.specs.declared.cell.Cell.TheVariants.{Mv}
+use Rattle.std.proofs.lemmas.Slice.Eq.{bytes_eq-Decides}
+use Rattle.grid_text.specs.Form.{is_missing, cell_of}
+use Rattle.grid_text.proofs.ValueLaws.{nodata_missing, cell_missing, cell_there, not_missing}
+use Rattle.grid_text.proofs.cells.cell_at.Goals as goal
+
+pub returns-then-eq : goal.returns-then-eq
+returns-then-eq c =
+    let same : c.args.token.now ≡ c.args.nodata.now = (bytes_eq-Decides c.args.token.now c.args.nodata.now).0 (sym c.eq.ensures ∙ c.if-eq.true) in
+    let missing : is_missing c.args.nodata.now c.args.token.now ≡ true = subst (λ token. is_missing c.args.nodata.now token ≡ true) (sym same) (nodata_missing c.args.nodata.now c.requires.nodata) in
+    cell_missing c.args.kind c.args.nodata.now c.args.token.now missing
+
+pub returns-then-not-may_be : goal.returns-then-not-may_be
+returns-then-not-may_be c =
+    let there : is_missing c.args.nodata.now c.args.token.now ≡ false = not_missing c.args.kind c.args.nodata.now c.args.token.now c.args.number c.read_cell-read.result c.requires.prepared c.read_cell-read.ensures.reading (sym c.may_be.ensures ∙ c.if-not-may_be.true) in
+    c.read_cell-read.ensures.reading ∙ cell_there c.args.kind c.args.nodata.now c.args.token.now there
+
+pub returns-then-stands_for_missing : goal.returns-then-stands_for_missing
+returns-then-stands_for_missing c = cell_missing c.args.kind c.args.nodata.now c.args.token.now (sym c.stands_for_missing.ensures ∙ c.if-stands_for_missing.true)
+
+pub returns : goal.returns
+returns c = c.read_cell-read.ensures.reading ∙ cell_there c.args.kind c.args.nodata.now c.args.token.now (sym c.stands_for_missing.ensures ∙ c.if-stands_for_missing.false)

@@ -1,0 +1,16 @@
+use Rattle.std.proofs.Common.{◌≡◌, ◌≤◌, ◌+◌, ℕ, suc, List, length, ◌∷◌, ap, sym, ◌∙◌, arith}
+use Rattle.grid_text.specs.Steps.{tokens_left}
+use Rattle.grid_text.proofs.TokenLaws.{left_blank}
+use Rattle.grid_text.proofs.tokens.skip_blanks.Goals as goal
+
+pub loop-first-preserved : goal.loop-first-preserved
+loop-first-preserved c =
+    let parts = c.in-Some.ensures.cases in
+    let longer : suc (length c.in-Some.after.now) ≤ length c.args.text.now = omega (arith, parts.1, c.loop-first.invariant.shorter) in
+    record {
+      shorter = omega (arith, longer);
+      same = λ text_len within.
+          left_blank text_len c.in-Some.first.now c.in-Some.after.now (sym c.blank.ensures ∙ c.if-not-blank.false) (omega (arith, longer, within))
+          ∙ ap (tokens_left text_len) (sym parts.0)
+          ∙ c.loop-first.invariant.same text_len within;
+    }

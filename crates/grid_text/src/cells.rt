@@ -1,0 +1,141 @@
+//! The cells of a grid text.
+
+ghost use Rattle.std.specs.Prelude.{◌≡◌, ◌≤◌, true, length};
+ghost use Rattle.cell_values.specs.Reading.{cell_read};
+ghost use Rattle.grid_text.specs.declared.fault.GridKind.TheVariants as kinds;
+ghost use Rattle.grid_text.specs.Key.{is_nodata};
+ghost use Rattle.grid_text.specs.Form.{cell_of, is_missing};
+ghost use Rattle.grid_text.specs.Faults.{fault_at};
+ghost use Rattle.grid_text.specs.Reading.{cells_from, told_at};
+ghost use Rattle.grid_text.specs.Steps.{Gives, may_be_same, number_of_cell, tokens_left};
+
+use crate::fault::{GridFault, GridKind, ReadGrid};
+use crate::key::is_nan;
+use crate::tokens::next_token;
+use cell_values::{Cell, Cells, Kind, NumberFault, is_decimal, read_cell, same_decimal};
+use std::alloc::Global;
+
+// A wrong number of cells.
+fn count_fault(at: u64) -> GridFault
+    ensures { result ≡ fault_at kinds.Count at }
+{
+    GridFault {
+        kind: GridKind::Count,
+        at,
+    }
+}
+
+// The number of a cell that is read.
+fn number_of(read: Result<Cell, NumberFault>) -> Option<i64>
+    ensures { result ≡ number_of_cell read }
+{
+    match read {
+        Ok(Cell::Val(number)) => Some(number),
+        _ => None,
+    }
+}
+
+// Whether what is read may be what the missing value is read as, of which the number is known.
+#[inline]
+fn may_be(number: Option<i64>, read: Result<Cell, NumberFault>) -> bool
+    ensures { result ≡ may_be_same number read }
+{
+    match (number, read) {
+        (Some(m), Ok(Cell::Val(n))) => m == n,
+        (None, Ok(Cell::Val(_))) => false,
+        _ => true,
+    }
+}
+
+// Whether the token stands for a missing cell.
+fn stands_for_missing(nodata: &[u8], token: &[u8]) -> bool
+    ensures { result ≡ is_missing nodata.now token.now }
+{
+    if is_nan(nodata) && is_nan(token) {
+        return true;
+    }
+    if !is_decimal(nodata) {
+        return false;
+    }
+    if !is_decimal(token) {
+        return false;
+    }
+    same_decimal(nodata, token)
+}
+
+// The cell that a token writes. A missing value has mostly the spelling of the head, and a cell of another number is
+// not missing.
+#[inline]
+fn cell_at(
+    kind: Kind,
+    nodata: &[u8],
+    number: Option<i64>,
+    token: &[u8],
+) -> Result<Cell, NumberFault>
+    requires nodata { is_nodata nodata.now ≡ true }
+    requires prepared { number ≡ number_of_cell (cell_read kind nodata.now) }
+    ensures { result ≡ cell_of kind nodata.now token.now }
+{
+    if token == nodata {
+        return Ok(Cell::Mv);
+    }
+    let read = read_cell(kind, token);
+    if !may_be(number, read) {
+        return read;
+    }
+    if stands_for_missing(nodata, token) {
+        return Ok(Cell::Mv);
+    }
+    read
+}
+
+// A cell, or the fault of its token.
+#[inline]
+fn told(at: u64, read: Result<Cell, NumberFault>) -> Result<Cell, GridFault>
+    ensures { result ≡ told_at at read }
+{
+    match read {
+        Ok(cell) => Ok(cell),
+        Err(NumberFault::BadNumber) => Err(GridFault {
+            kind: GridKind::BadNumber,
+            at,
+        }),
+        Err(NumberFault::Range) => Err(GridFault {
+            kind: GridKind::Range,
+            at,
+        }),
+    }
+}
+
+/// Reads just so many cells from the last bytes of a text of this length.
+pub fn read_cells(
+    alloc: Global,
+    kind: Kind,
+    nodata: &[u8],
+    count: usize,
+    text_len: usize,
+    bytes: &[u8],
+) -> Result<Cells, ReadGrid>
+    requires nodata { is_nodata nodata.now ≡ true }
+    requires within { length bytes.now ≤ text_len }
+    ensures { Gives (λ cells. cells) result (cells_from kind nodata.now text_len count (tokens_left text_len bytes.now)) }
+{
+    let number = number_of(read_cell(kind, nodata));
+    // A cell takes a byte, and a blank before the next one.
+    let mut cells = Vec::with_capacity(alloc, count.min(bytes.len() / 2 + 1))?;
+    let mut rest = bytes;
+    for _ in 0..count {
+        let Some((token, behind)) = next_token(text_len, rest) else {
+            return Err(ReadGrid::Fault(count_fault(text_len as u64)));
+        };
+        match told(token.at, cell_at(kind, nodata, number, token.bytes)) {
+            Ok(cell) => cells.push(cell)?,
+            Err(fault) => return Err(ReadGrid::Fault(fault)),
+        }
+        rest = behind;
+    }
+    if let Some((token, _)) = next_token(text_len, rest) {
+        return Err(ReadGrid::Fault(count_fault(token.at)));
+    }
+    Ok(Cells::from_vec(cells))
+}
