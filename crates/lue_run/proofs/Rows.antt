@@ -6,7 +6,7 @@ use Rattle.outside_io.specs.State.{Files, FolderState, SinkState, Wrote}
 use Rattle.outside_io.specs.Course.{Run, Why, Ends, ByContents, Follows, HasCause, DidAll}
 use Rattle.outside_io.proofs.Steps.{meets_forgotten}
 use Rattle.lue_run.specs.declared.ended.SessionEnd.{SessionEnd}
-use Rattle.lue_run.specs.declared.ended.SessionEnd.TheVariants.{Done, Missing, TooLong, Unbuilt, Overflow, FolderReadFault, FolderWriteFault, Memory}
+use Rattle.lue_run.specs.declared.ended.SessionEnd.TheVariants.{Done, Missing, TooLong, Unbuilt, Input, Overflow, FolderReadFault, FolderWriteFault, Memory}
 use Rattle.lue_run.specs.declared.ended.Ended.{Ended}
 use Rattle.lue_run.specs.declared.ended.Ended.TheVariants as top
 use Rattle.lue_run.specs.declared.ended.Tally.{Tally}
@@ -33,6 +33,7 @@ module _ (command : Option Command) (old new : FolderState) (out_old out_new : S
   answers_of (top.Missing name) t = same _ t
   answers_of (top.TooLong name) t = same _ t
   answers_of (top.Unbuilt name) t = same _ t
+  answers_of (top.Input name kind) t = same _ t
   answers_of (top.Overflow at) t = same _ t
   answers_of (top.FolderReadFault name) t = same _ t
   answers_of (top.FolderWriteFault name) t = same _ t
@@ -69,6 +70,7 @@ module _ (command : Command) (old new : FolderState) (out_old out_new : SinkStat
   without_fault (Missing word) c = inr (verdict_of (run_of command) old new (Missing word) _ refl c)
   without_fault (TooLong word) c = inr (verdict_of (run_of command) old new (TooLong word) _ refl c)
   without_fault (Unbuilt word) c = inr (verdict_of (run_of command) old new (Unbuilt word) _ refl c)
+  without_fault (Input word kind) c = inr (verdict_of (run_of command) old new (Input word kind) _ refl c)
   without_fault (Overflow at) c = inr (verdict_of (run_of command) old new (Overflow at) _ refl c)
   without_fault (FolderReadFault word) c = absurd (none.reads (cause_of (run_of command) old new (FolderReadFault word) c))
   without_fault (FolderWriteFault word) c = absurd (none.puts (cause_of (run_of command) old new (FolderWriteFault word) c))
@@ -90,6 +92,7 @@ module _ (old new : FolderState) (out_old out_new : SinkState) (none : NoFault o
   complete_of command (top.Missing word) a = written command _ a.0 a.1
   complete_of command (top.TooLong word) a = written command _ a.0 a.1
   complete_of command (top.Unbuilt word) a = written command _ a.0 a.1
+  complete_of command (top.Input word kind) a = written command _ a.0 a.1
   complete_of command (top.Overflow at) a = written command _ a.0 a.1
   complete_of command (top.FolderReadFault word) a = written command _ a.0 a.1
   complete_of command (top.FolderWriteFault word) a = written command _ a.0 a.1

@@ -1,8 +1,12 @@
 -- How a run ends: the answer, its line and its status.
 use Rattle.std.specs.Prelude.{List, ℕ, [], ◌++◌, Ok, Err, Result, codes, decimal}
 use Rattle.outside_io.specs.Course.{Way, Ends, ReadFault, WriteFault, NoMemory, ByContents, ByAbsence, ByLength}
+use Rattle.grid_text.specs.declared.fault.GridKind.{GridKind}
+use Rattle.grid_text.specs.declared.fault.GridKind.TheVariants as kinds
+use Rattle.lue_run.specs.declared.ended.InputKind.{InputKind}
+use Rattle.lue_run.specs.declared.ended.InputKind.TheVariants.{Grid, Size}
 use Rattle.lue_run.specs.declared.ended.SessionEnd.{SessionEnd}
-use Rattle.lue_run.specs.declared.ended.SessionEnd.TheVariants.{Done, Missing, TooLong, Unbuilt, Overflow, FolderReadFault, FolderWriteFault, Memory}
+use Rattle.lue_run.specs.declared.ended.SessionEnd.TheVariants.{Done, Missing, TooLong, Unbuilt, Input, Overflow, FolderReadFault, FolderWriteFault, Memory}
 use Rattle.lue_run.specs.declared.ended.Ended.{Ended}
 use Rattle.lue_run.specs.declared.ended.Ended.TheVariants as top
 use Rattle.lue_run.specs.declared.ended.OverAt.{OverAt}
@@ -14,6 +18,7 @@ way (Done files steps) = Ends ByContents
 way (Missing name) = Ends ByAbsence
 way (TooLong name) = Ends ByLength
 way (Unbuilt name) = Ends ByContents
+way (Input name kind) = Ends ByContents
 way (Overflow at) = Ends ByContents
 way (FolderReadFault name) = ReadFault name
 way (FolderWriteFault name) = WriteFault name
@@ -30,6 +35,7 @@ ended_as (Done files steps) = top.Done files steps
 ended_as (Missing name) = top.Missing name
 ended_as (TooLong name) = top.TooLong name
 ended_as (Unbuilt name) = top.Unbuilt name
+ended_as (Input name kind) = top.Input name kind
 ended_as (Overflow at) = top.Overflow at
 ended_as (FolderReadFault name) = top.FolderReadFault name
 ended_as (FolderWriteFault name) = top.FolderWriteFault name
@@ -38,6 +44,18 @@ ended_as Memory = top.Memory
 -- a line of a text and a name
 abbrev pub named_line : List ℕ → List ℕ → List ℕ
 named_line text name = text ++ name ++ codes "\n"
+
+-- the word for the kind of a grid's fault
+abbrev pub grid_word : GridKind → List ℕ
+grid_word kinds.Head = codes "head"
+grid_word kinds.BadNumber = codes "bad-number"
+grid_word kinds.Range = codes "range"
+grid_word kinds.Count = codes "count"
+
+-- the line of an input that is not as it is to be
+abbrev pub input_line : List ℕ → InputKind → List ℕ
+input_line name (Grid fault) = codes "input " ++ name ++ codes " grid " ++ grid_word fault.kind ++ codes " " ++ decimal fault.at ++ codes "\n"
+input_line name (Size rows cols) = codes "input " ++ name ++ codes " size " ++ decimal rows ++ codes " " ++ decimal cols ++ codes "\n"
 
 -- the line of an overflow
 abbrev pub over_line : OverAt → List ℕ
@@ -51,6 +69,7 @@ line_of top.Usage = codes "usage\n"
 line_of (top.Missing name) = named_line (codes "missing ") name
 line_of (top.TooLong name) = named_line (codes "too long ") name
 line_of (top.Unbuilt name) = named_line (codes "unbuilt ") name
+line_of (top.Input name kind) = input_line name kind
 line_of (top.Overflow at) = over_line at
 line_of (top.FolderReadFault name) = named_line (codes "read fault ") name
 line_of (top.FolderWriteFault name) = named_line (codes "write fault ") name
@@ -64,6 +83,7 @@ status_of top.Usage = 2
 status_of (top.Missing name) = 4
 status_of (top.TooLong name) = 4
 status_of (top.Unbuilt name) = 11
+status_of (top.Input name kind) = 4
 status_of (top.Overflow at) = 5
 status_of (top.FolderReadFault name) = 7
 status_of (top.FolderWriteFault name) = 8

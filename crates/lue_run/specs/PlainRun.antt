@@ -11,11 +11,13 @@ use Rattle.script_syntax.specs.declared.tree.Target.{Target}
 use Rattle.script_syntax.specs.declared.tree.Target.TheVariants.{File}
 use Rattle.script_syntax.specs.Reading.{script_of}
 use Rattle.grid_text.specs.declared.grid.Grid.{Grid}
-use Rattle.grid_text.specs.Plain.{grid_of}
+use Rattle.grid_text.specs.declared.fault.GridFault.{GridFault}
+use Rattle.grid_text.specs.Reading.{grid_of}
 use Rattle.grid_text.specs.Written.{written_grid}
+use Rattle.lue_run.specs.declared.ended.InputKind.TheVariants as inputs
 use Rattle.lue_run.specs.declared.ended.OverAt.{OverAt}
 use Rattle.lue_run.specs.declared.ended.SessionEnd.{SessionEnd}
-use Rattle.lue_run.specs.declared.ended.SessionEnd.TheVariants.{Missing, TooLong, Unbuilt, Overflow}
+use Rattle.lue_run.specs.declared.ended.SessionEnd.TheVariants.{Missing, TooLong, Unbuilt, Input, Overflow}
 use Rattle.lue_run.specs.declared.ended.Tally.{Tally}
 use Rattle.lue_run.specs.MapSum.{sums_from}
 use Rattle.lue_run.specs.Words.{Command, Plain}
@@ -62,11 +64,16 @@ script_run name = do
 
 -- ---- the grids
 
+-- the grid of a text, or the end of a run at the text's first fault
+abbrev pub or_input : List ℕ → Result Grid GridFault → Result Grid SessionEnd
+or_input name (Ok grid) = Ok grid
+or_input name (Err fault) = Err (Input name (inputs.Grid fault))
+
 -- a grid is read, then its text
 abbrev pub grid_run : List ℕ → Run Grid SessionEnd
 grid_run name = do
   text ← reading Missing TooLong name file_limit
-  settled (or_unbuilt name (grid_of text))
+  settled (or_input name (grid_of Scalar text))
 
 -- the first place of a map of so many columns whose sum is out of range
 abbrev pub over_at : ℕ → ℕ → OverAt
@@ -83,7 +90,7 @@ same_size a b = (a.rows == b.rows) && (a.cols == b.cols)
 
 -- the sum of two grids, of which the second one has this name; it is to have the first one's size
 unfoldable pub grid_sum : List ℕ → Grid → Grid → Result (List Cell) SessionEnd
-grid_sum name a b = if same_size a b then or_overflow a.cols (sums_from 0 a.cells b.cells) else Err (Unbuilt name)
+grid_sum name a b = if same_size a b then or_overflow a.cols (sums_from 0 a.cells b.cells) else Err (Input name (inputs.Size b.rows b.cols))
 
 -- ---- the run
 

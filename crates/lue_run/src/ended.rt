@@ -1,4 +1,5 @@
 use cell_values::Word;
+use grid_text::GridFault;
 
 /// The first result that lies outside the range of its kind. Statements, operations, rows and columns count from 1;
 /// step 0 is the section `initial`.
@@ -9,6 +10,15 @@ pub struct OverAt {
     pub operation: u32,
     pub row: u32,
     pub col: u32,
+}
+
+/// What is wrong with an input.
+#[derive(Clone, Copy, Debug, PartialEq, Eq)]
+pub enum InputKind {
+    /// The text is no grid: its first fault.
+    Grid(GridFault),
+    /// The grid has other numbers of rows and columns than the area map.
+    Size { rows: u32, cols: u32 },
 }
 
 /// How a call of the program ended.
@@ -24,6 +34,8 @@ pub enum Ended {
     TooLong(Word),
     /// The file is outside of what is built.
     Unbuilt(Word),
+    /// The file of this name is no input as it is to be.
+    Input { name: Word, kind: InputKind },
     /// A cell's result is out of range.
     Overflow(OverAt),
     /// The file could not be read.
@@ -47,6 +59,8 @@ pub enum SessionEnd {
     TooLong(Word),
     /// The file is outside of what is built.
     Unbuilt(Word),
+    /// The file of this name is no input as it is to be.
+    Input { name: Word, kind: InputKind },
     /// A cell's result is out of range.
     Overflow(OverAt),
     /// The file could not be read.

@@ -12,6 +12,6 @@ mod map_sum;
 mod plain;
 mod top;
 
-pub use ended::{Ended, OverAt};
+pub use ended::{Ended, InputKind, OverAt};
 pub use line::status;
 pub use top::lue_plain;

@@ -1,8 +1,9 @@
 ghost use Rattle.std.specs.Prelude.{◌≡◌, ◌++◌, IfOk, OnErr, OnOk, codes, decimal};
-ghost use Rattle.lue_run.specs.Ends.{line_of, named_line, over_line, status_of};
+ghost use Rattle.lue_run.specs.Ends.{grid_word, input_line, line_of, named_line, over_line, status_of};
 
-use crate::ended::{Ended, OverAt};
+use crate::ended::{Ended, InputKind, OverAt};
 use cell_values::Word;
+use grid_text::GridKind;
 use itoa::Buffer;
 use std::alloc::{AllocError, Global};
 
@@ -13,7 +14,7 @@ pub fn status(end: &Ended) -> u8
     match end {
         Ended::Done { .. } => 0,
         Ended::Usage => 2,
-        Ended::Missing(_) | Ended::TooLong(_) => 4,
+        Ended::Missing(_) | Ended::TooLong(_) | Ended::Input { .. } => 4,
         Ended::Overflow(_) => 5,
         Ended::FolderReadFault(_) => 7,
         Ended::FolderWriteFault(_) => 8,
@@ -54,6 +55,39 @@ fn done_line(alloc: Global, files: u64, steps: u32) -> Result<Vec<u8>, AllocErro
     Ok(line)
 }
 
+// The word for the kind of a grid's fault.
+fn grid_word(kind: GridKind) -> &'static [u8]
+    ensures { result.now ≡ grid_word kind }
+{
+    match kind {
+        GridKind::Head => b"head",
+        GridKind::BadNumber => b"bad-number",
+        GridKind::Range => b"range",
+        GridKind::Count => b"count",
+    }
+}
+
+// The line of an input that is not as it is to be.
+fn input_line(alloc: Global, name: &Word, kind: InputKind) -> Result<Vec<u8>, AllocError>
+    ensures { IfOk result (λ line. line.items ≡ input_line name.now kind) }
+{
+    let mut line = Vec::from_slice(alloc, b"input ")?;
+    line.extend_from_slice(name.bytes())?;
+    match kind {
+        InputKind::Grid(fault) => {
+            line.extend_from_slice(b" grid ")?;
+            line.extend_from_slice(grid_word(fault.kind))?;
+            put_number(&mut line, b" ", fault.at)?;
+        }
+        InputKind::Size { rows, cols } => {
+            put_number(&mut line, b" size ", rows as u64)?;
+            put_number(&mut line, b" ", cols as u64)?;
+        }
+    }
+    line.push(b'\n')?;
+    Ok(line)
+}
+
 // The line of an overflow.
 fn overflow_line(alloc: Global, at: &OverAt) -> Result<Vec<u8>, AllocError>
     ensures { IfOk result (λ line. line.items ≡ over_line at.now) }
@@ -78,6 +112,7 @@ pub fn line(alloc: Global, end: &Ended) -> Result<Vec<u8>, AllocError>
         Ended::Missing(name) => with_name(alloc, b"missing ", name),
         Ended::TooLong(name) => with_name(alloc, b"too long ", name),
         Ended::Unbuilt(name) => with_name(alloc, b"unbuilt ", name),
+        Ended::Input { name, kind } => input_line(alloc, name, *kind),
         Ended::Overflow(at) => overflow_line(alloc, at),
         Ended::FolderReadFault(name) => with_name(alloc, b"read fault ", name),
         Ended::FolderWriteFault(name) => with_name(alloc, b"write fault ", name),

@@ -1,14 +1,14 @@
 ghost use Rattle.std.specs.Prelude.{◌≡◌, ◌<◌, ◌≤◌, length, MatchOption, IfOk, None, Some};
 ghost use Rattle.outside_io.specs.Course.{Meets, Settles, putting};
 ghost use Rattle.lue_run.specs.Ends.{way};
-ghost use Rattle.lue_run.specs.PlainRun.{grid_run, grid_sum, grids_run, over_at, or_unbuilt, script_run, sum_files, sum_run};
-ghost use Rattle.lue_run.specs.Sized.{IsSized, IsUnbuilt, view};
+ghost use Rattle.lue_run.specs.PlainRun.{grid_run, grid_sum, grids_run, over_at, or_input, or_unbuilt, script_run, sum_files, sum_run};
+ghost use Rattle.lue_run.specs.Sized.{IsInput, IsSized, IsUnbuilt, view};
 ghost use Rattle.cell_values.specs.declared.kind.Kind.TheVariants.{Scalar};
-ghost use Rattle.grid_text.specs.Plain.{grid_of};
+ghost use Rattle.grid_text.specs.Reading.{grid_of};
 ghost use Rattle.grid_text.specs.Written.{written_grid};
 ghost use Rattle.script_syntax.specs.Reading.{script_of};
 
-use crate::ended::{OverAt, SessionEnd, Tally};
+use crate::ended::{InputKind, OverAt, SessionEnd, Tally};
 use crate::files::{fetch, store};
 use crate::map_sum::{SumEnd, sum_maps};
 use cell_values::{Cells, Kind, Word};
@@ -71,16 +71,26 @@ fn unbuilt(alloc: Global, name: &Word) -> SessionEnd
     }
 }
 
+// The end at an input that is not as it is to be.
+fn input(alloc: Global, name: &Word, kind: InputKind) -> SessionEnd
+    ensures { IsInput name.now kind result }
+{
+    match name.twin(alloc) {
+        Ok(name) => SessionEnd::Input { name, kind },
+        Err(_) => SessionEnd::Memory,
+    }
+}
+
 // The grid of a text.
 fn parse_grid(alloc: Global, name: &Word, text: &[u8]) -> Result<Grid, SessionEnd>
     requires { length text.now ≤ 268435456 }
-    ensures settles { Settles way (or_unbuilt name.now (grid_of text.now)) result }
+    ensures settles { Settles way (or_input name.now (grid_of Scalar text.now)) result }
     ensures sized { IfOk result IsSized }
 {
     match read_grid(alloc, Kind::Scalar, text) {
         Ok(grid) => Ok(grid),
         Err(ReadGrid::Memory) => Err(SessionEnd::Memory),
-        Err(ReadGrid::Unbuilt) => Err(unbuilt(alloc, name)),
+        Err(ReadGrid::Fault(fault)) => Err(input(alloc, name, InputKind::Grid(fault))),
     }
 }
 
@@ -144,7 +154,11 @@ fn sum_grids(alloc: Global, name: &Word, first: &Grid, second: &Grid) -> Result<
     ensures count { IfOk result (λ cells. length cells ≡ length first.now.cells) }
 {
     if first.rows != second.rows || first.cols != second.cols {
-        return Err(unbuilt(alloc, name));
+        let kind = InputKind::Size {
+            rows: second.rows,
+            cols: second.cols,
+        };
+        return Err(input(alloc, name, kind));
     }
     match sum_maps(alloc, first.cells.as_slice(), second.cells.as_slice()) {
         Ok(cells) => Ok(cells),

@@ -26,6 +26,7 @@ fn ended(outcome: Result<Tally, SessionEnd>) -> Ended
         Err(SessionEnd::Missing(name)) => Ended::Missing(name),
         Err(SessionEnd::TooLong(name)) => Ended::TooLong(name),
         Err(SessionEnd::Unbuilt(name)) => Ended::Unbuilt(name),
+        Err(SessionEnd::Input { name, kind }) => Ended::Input { name, kind },
         Err(SessionEnd::Overflow(at)) => Ended::Overflow(at),
         Err(SessionEnd::FolderReadFault(name)) => Ended::FolderReadFault(name),
         Err(SessionEnd::FolderWriteFault(name)) => Ended::FolderWriteFault(name),

@@ -11,9 +11,8 @@ use Rattle.script_syntax.specs.declared.token.Symbol.TheVariants.{Equal, Plus, S
 use Rattle.script_syntax.specs.declared.token.Token.{Token}
 use Rattle.script_syntax.specs.declared.token.Token.TheVariants as tokens
 use Rattle.script_syntax.specs.declared.tree.Script.{Script}
-use Rattle.script_syntax.specs.Decimal.{is_decimal_text}
 use Rattle.script_syntax.specs.Tokens.{tokens_of}
-use Rattle.script_syntax.specs.PairForm.{IsName, IsFileName, PairWords, pair_tokens, ArePairWords, pair_tree, IsPairForm, is_reserved}
+use Rattle.script_syntax.specs.PairForm.{is_decimal_text, IsName, IsFileName, PairWords, pair_tokens, ArePairWords, pair_tree, IsPairForm, is_reserved}
 use Rattle.script_syntax.specs.Reading.{ReadsScript, ◌>>=◌, word_at, file_at, same_symbol, behind_symbol, behind_word, EntryWords, entry_at, area_at, SumWords, sum_at, PlacesWords, places_in, is_name, is_file_name, are_apart, agree, are_words, differ, is_pair, words_of, script_of_tokens, script_of}
 
 both : (a b : Bool) → (a && b) ≡ true → (a ≡ true) × (b ≡ true)

@@ -1,4 +1,3 @@
-pub mod Decimal
 pub mod PairForm
 pub mod Reading
 pub mod Tokens

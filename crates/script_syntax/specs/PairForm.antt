@@ -1,5 +1,5 @@
 -- The pair form of a script, and the tree of a text in this form.
-use Rattle.std.specs.Prelude.{◌≡◌, ◌≢◌, ◌≤◌, ℕ, Bool, true, false, List, [], ◌∷◌, length, codes, Some}
+use Rattle.std.specs.Prelude.{◌≡◌, ◌≢◌, ◌≤◌, ℕ, Bool, true, false, List, [], ◌∷◌, length, codes, is_some, Some}
 use Rattle.std.specs.List.{list_any}
 use Rattle.std.specs.Str.{bytes_eq}
 use Rattle.script_syntax.specs.declared.token.Symbol.TheVariants.{Equal, Plus, Semicolon}
@@ -10,7 +10,7 @@ use Rattle.script_syntax.specs.declared.tree.Target.TheVariants as targets
 use Rattle.script_syntax.specs.declared.tree.Expr.TheVariants as exprs
 use Rattle.script_syntax.specs.declared.tree.Statement.{Statement}
 use Rattle.script_syntax.specs.declared.tree.Script.{Script}
-use Rattle.script_syntax.specs.Decimal.{is_decimal_text}
+use Rattle.cell_values.specs.Decimal.{decimal_of}
 use Rattle.script_syntax.specs.Tokens.{tokens_of}
 
 -- the words that are no names
@@ -28,6 +28,10 @@ is_reserved word = list_any (λ r. bytes_eq word r) reserved
 pub record IsName (word : List ℕ) : Type 0 where
   pub free : is_reserved word ≡ false
   pub short : length word ≤ 64
+
+-- the word is a decimal
+abbrev pub is_decimal_text : List ℕ → Bool
+is_decimal_text word = is_some (decimal_of word)
 
 -- the file word may stand as the name of a file: it is no decimal, and has at most 64 bytes
 pub record IsFileName (word : List ℕ) : Type 0 where

@@ -13,8 +13,7 @@ use Rattle.script_syntax.specs.declared.pair.Entry.{Entry}
 use Rattle.script_syntax.specs.declared.pair.Sum.{Sum}
 use Rattle.script_syntax.specs.declared.pair.Places.{Places}
 use Rattle.script_syntax.specs.declared.tree.Script.{Script}
-use Rattle.script_syntax.specs.Decimal.{is_decimal_text}
-use Rattle.script_syntax.specs.PairForm.{PairWords, is_reserved, pair_tree}
+use Rattle.script_syntax.specs.PairForm.{is_decimal_text, PairWords, is_reserved, pair_tree}
 use Rattle.script_syntax.specs.Tokens.{tokens_of}
 
 -- what a reader answers is what a text has, unless memory ran out

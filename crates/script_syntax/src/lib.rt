@@ -11,7 +11,6 @@
 //! `Items` of `sqlite_items`, which contracts see as lists.
 #![tactic(auto)]
 
-mod decimal;
 mod fault;
 mod law;
 mod lexer;

@@ -1,4 +1,3 @@
-use crate::decimal::is_decimal;
 use crate::{Expr, ReadScript, Script, Target, read_script};
 use cell_values::Word;
 use std::alloc::{AllocError, Global};
@@ -136,32 +135,5 @@ fn refuses_other_texts(rt: HostRuntime) {
     ] {
         let fault = read_script(rt.alloc(), text.as_bytes()).err();
         assert_eq!(rt; fault, Some(ReadScript::Unbuilt), "at {text}");
-    }
-}
-
-#[test]
-fn tells_decimals(rt: HostRuntime) {
-    for (text, want) in [
-        ("0", true),
-        ("-1.5", true),
-        ("+.5", true),
-        ("5.", true),
-        ("1e5", true),
-        ("1.5E-123456", true),
-        ("", false),
-        (".", false),
-        ("-", false),
-        ("1..5", false),
-        ("1.5.", false),
-        ("--1", false),
-        ("1e", false),
-        ("e5", false),
-        ("1e+", false),
-        ("1e1234567", false),
-        ("1e5e5", false),
-        ("1e5.", false),
-        ("1x", false),
-    ] {
-        assert_eq!(rt; is_decimal(text.as_bytes()), want, "at {text}");
     }
 }

@@ -4,9 +4,8 @@ ghost use Rattle.std.specs.Str.{bytes_eq};
 ghost use Rattle.script_syntax.specs.PairForm.{is_reserved};
 ghost use Rattle.script_syntax.specs.Reading.{agree, are_apart, are_words, differ, is_file_name, is_name, is_pair, places_words};
 
-use crate::decimal::is_decimal;
 use crate::pair::Places;
-use cell_values::Word;
+use cell_values::{Word, is_decimal};
 
 /// How many bytes a name or a file word has at most.
 const LONGEST: usize = 64;

@@ -1,0 +1,6 @@
+//! Whole runs of the top calls over folders and sinks in memory: worked examples with their files, lines and statuses,
+//! and a fault of each call in turn. The crate has tests alone.
+#![tactic(auto)]
+
+#[cfg(test)]
+mod tests;
