@@ -21,7 +21,7 @@ use Rattle.cell_values.specs.declared.cell.NumberFault.{NumberFault}
 use Rattle.cell_values.specs.declared.cell.NumberFault.TheVariants.{BadNumber, Range}
 use Rattle.cell_values.specs.Rounding.{nearest, nearest_size}
 use Rattle.cell_values.specs.Decimal.{Decimal, decimal_of, decimal_of_parts, has_digits, exponent_of, front_digits, behind_digits, fraction_digits, behind_fraction, numerator, denominator, size_of, with_sign}
-use Rattle.cell_values.specs.Reading.{quotient, taken, cell_taken, cell_of_decimal, cell_read, same_value}
+use Rattle.cell_values.specs.Reading.{quotient, number_taken, cell_taken, cell_of_decimal, cell_read, same_value}
 use Rattle.cell_values.proofs.Alike.{same_value-is, same_value-means}
 use Rattle.cell_values.proofs.Cuts.{same_test}
 use Rattle.cell_values.proofs.DecimalLaws.{no_digits}
@@ -95,7 +95,7 @@ module _ (m n : Bool) (s d t e : ℕ) (some_d : 0 < d) (some_e : 0 < e) (ratio :
       ∙ sym (quotient-exact n t e some_e (sym (same_whole s d t e some_d some_e ratio) ∙ whole)))
       (λ part. quotient-part m s d part ∙ sym (quotient-part n t e (sym (same_whole s d t e some_d some_e ratio) ∙ part)))
 
-  same_taken : (kind : Kind) → taken kind (with_sign m s) d ≡ taken kind (with_sign n t) e
+  same_taken : (kind : Kind) → number_taken kind (with_sign m s) d ≡ number_taken kind (with_sign n t) e
   same_taken Boolean = same_quotient
   same_taken Nominal = same_quotient
   same_taken Ordinal = same_quotient
