@@ -1,21 +1,20 @@
 -- A written text is read back.
-use Rattle.std.proofs.Common.{◌≡◌, ℕ, zero, suc, ◌+◌, ◌*◌, ◌^◌, ◌<◌, ◌≤◌, Bool, true, false, ◌&&◌, ◌||◌, cond, List, [], ◌∷◌, ◌++◌, length, take, drop, map, Some, None, Result, Ok, Err, ℤ, lit<, refl, sym, ap, subst, ◌∙◌, append_assoc, mul_comm, arith}
-use Rattle.std.specs.Prelude.{codes, decimal, filter, is_some, is_none, nat_lt, nat_le}
+use Rattle.std.proofs.Common.{◌≡◌, ℕ, zero, suc, ◌+◌, ◌*◌, ◌^◌, ◌<◌, ◌≤◌, Bool, true, false, cond, List, [], ◌∷◌, ◌++◌, length, take, drop, map, Some, None, Ok, ℤ, lit<, refl, sym, ap, subst, ◌∙◌, append_assoc, mul_comm, arith}
+use Rattle.std.specs.Prelude.{codes, decimal, filter, is_some, is_none, nat_le}
 use Rattle.std.specs.declared.option.Option.{Option}
 use Rattle.std.specs.Option.{option_and_then}
 use Rattle.std.specs.Char.{to_ascii_lowercase}
 use Rattle.std.specs.List.{All, list_all}
-use Rattle.std.proofs.lemmas.Bool.{and_parts, and_from, or_from, or_left, ne_eqb, lt-ltb, false_from_ne_true}
-use Rattle.std.proofs.lemmas.List.{nil_from_length, take-append-drop, map-append, length-drop, append-nil}
+use Rattle.std.proofs.lemmas.Bool.{and_parts, and_from, or_from, ne_eqb, lt-ltb, false_from_ne_true}
+use Rattle.std.proofs.lemmas.List.{nil_from_length, take-append-drop, map-append, length-drop}
 use Rattle.std.proofs.lemmas.List.Elements.{All-head, All-tail, All-take, All-drop}
 use Rattle.cell_values.specs.declared.cell.Cell.{Cell}
 use Rattle.cell_values.specs.declared.cell.Cell.TheVariants.{Mv, Val}
-use Rattle.cell_values.specs.declared.cell.NumberFault.{NumberFault}
 use Rattle.cell_values.specs.declared.kind.Kind.{Kind}
 use Rattle.cell_values.specs.Kinds.{IsCell}
 use Rattle.cell_values.specs.Decimal.{Decimal, decimal_of, IsDecimalText}
 use Rattle.cell_values.specs.Printed.{printed_cell}
-use Rattle.cell_values.specs.Reading.{cell_read, same_value}
+use Rattle.cell_values.specs.Reading.{same_value}
 use Rattle.cell_values.proofs.Alike.{same_value-means}
 use Rattle.cell_values.proofs.DecimalLaws.{text-from_some, some-from_text}
 use Rattle.cell_values.proofs.PrintedBack.{printed-back}
@@ -25,12 +24,11 @@ use Rattle.grid_text.specs.declared.key.Key.TheVariants.{Cols, Rows, X, Y, Size,
 use Rattle.grid_text.specs.declared.grid.Grid.{Grid}
 use Rattle.grid_text.specs.declared.grid.Head.{Head}
 use Rattle.grid_text.specs.Tokens.{Token, is_blank, tokens_from, tokens}
-use Rattle.grid_text.specs.Number.{number_of}
-use Rattle.grid_text.specs.Key.{is_word, key_of, is_center, is_nan, above_zero, side_of, is_positive, is_coordinate, is_cell_size, is_nodata}
-use Rattle.grid_text.specs.Form.{Pair, pair_tokens, names, is_pair_of, pairs_of, values_of, may_stand, is_pair, ends_pairs, placed, nodata_of, IsSize, IsHead, both_decimals, is_missing, cell_of, Begins, IsGrid}
+use Rattle.grid_text.specs.Key.{is_word, key_of, is_center, above_zero, side_of, is_positive, is_coordinate, is_cell_size, is_nodata}
+use Rattle.grid_text.specs.Form.{Pair, pair_tokens, names, is_pair_of, pairs_of, values_of, may_stand, is_pair, ends_pairs, placed, nodata_of, IsSize, IsHead, both_decimals, is_missing, cell_of, IsGrid}
 use Rattle.grid_text.specs.Written.{key_line, head_lines, behind_cell, row_line, row_lines, written_grid, text_of, AreGridValues, WrittenGridsReadBack}
 use Rattle.grid_text.specs.Steps.{is_token_byte}
-use Rattle.grid_text.proofs.Tools.{bool_cases, option_cases, some_is, ok_is, head_is, tail_is}
+use Rattle.grid_text.proofs.Tools.{bool_cases, option_cases, ok_is, head_is, tail_is}
 use Rattle.grid_text.proofs.TokenLaws.{IsToken, blank_front, tokens_from_run}
 use Rattle.grid_text.proofs.WordLaws.{digits_token, decimal_digits, decimal_number}
 use Rattle.grid_text.proofs.ValueLaws.{word_none, nodata_missing, cell_missing, cell_there}

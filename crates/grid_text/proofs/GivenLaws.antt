@@ -1,20 +1,20 @@
 -- What the pairs so far have given, one pair after the other.
-use Rattle.std.proofs.Common.{◌≡◌, ℕ, ◌*◌, ◌≤◌, ◌<◌, Bool, true, false, ◌&&◌, not, cond, List, [], ◌∷◌, ◌++◌, length, map, Some, None, Result, Ok, Err, refl, sym, ap, subst, ◌∙◌, arith}
-use Rattle.std.specs.Prelude.{is_some, is_none, nat_lt, nat_le, unwrap_or, codes}
+use Rattle.std.proofs.Common.{◌≡◌, ℕ, ◌*◌, Bool, true, false, ◌&&◌, not, cond, List, [], ◌∷◌, ◌++◌, map, Some, None, Result, Ok, Err, refl, sym, ap, subst, ◌∙◌}
+use Rattle.std.specs.Prelude.{is_some, nat_lt, nat_le, unwrap_or, codes}
 use Rattle.std.specs.declared.option.Option.{Option}
-use Rattle.std.specs.Option.{option_map, option_and_then, option_to_list, ok_or}
-use Rattle.std.proofs.lemmas.Bool.{ltb-true, ltb-false, lt-leb, le-leb, and_parts, not-true}
+use Rattle.std.specs.Option.{option_map, option_to_list, ok_or}
+use Rattle.std.proofs.lemmas.Bool.{ltb-true, ltb-false, lt-leb, le-leb}
 use Rattle.grid_text.specs.declared.key.Key.{Key}
 use Rattle.grid_text.specs.declared.key.Key.TheVariants.{Cols, Rows, X, Y, Size, Nodata}
 use Rattle.grid_text.specs.declared.fault.GridFault.{GridFault}
 use Rattle.grid_text.specs.declared.fault.GridKind.TheVariants as kinds
 use Rattle.grid_text.specs.Tokens.{Token}
-use Rattle.grid_text.specs.Key.{key_of, same_key, is_center, side_of, is_coordinate, is_cell_size, is_nodata, is_value_of}
+use Rattle.grid_text.specs.Key.{key_of, same_key, is_center, side_of, is_coordinate, is_cell_size, is_nodata}
 use Rattle.grid_text.specs.Form.{Pair, pairs_of, values_of, placed, nodata_of}
-use Rattle.grid_text.specs.Faults.{fault_at, side_before, are_too_many, is_too_large}
-use Rattle.grid_text.specs.Reading.{◌>>=◌, is_filled, is_taken, pair_taken, word_alone, pairs_from, Front, first_or, some_or, front_of}
+use Rattle.grid_text.specs.Faults.{fault_at, side_before, are_too_many}
+use Rattle.grid_text.specs.Reading.{◌>>=◌, is_filled, is_taken, pair_taken, word_alone, pairs_from, first_or, some_or, front_of}
 use Rattle.grid_text.specs.Steps.{Values, AreValues, has_come, side_beside, where_good, place_given, with_value, front_given}
-use Rattle.grid_text.proofs.Tools.{bool_cases, some_is, filled}
+use Rattle.grid_text.proofs.Tools.{bool_cases, some_is}
 use Rattle.grid_text.proofs.Pairs.{pairs_of-push_same, pairs_of-push_other, taken_says}
 use Rattle.grid_text.proofs.Heads.{pair_read}
 

@@ -1,6 +1,6 @@
 -- The first fault of a head.
-use Rattle.std.proofs.Common.{◌≡◌, ◌≢◌, ℕ, ◌+◌, ◌*◌, ◌≤◌, ◌<◌, suc, Bool, true, false, ◌&&◌, not, cond, List, [], ◌∷◌, ◌++◌, length, map, Some, None, Result, Ok, Err, refl, sym, ap, subst, ◌∙◌, append_assoc, ◌⊎◌, inl, inr, arith}
-use Rattle.std.specs.Prelude.{is_some, is_none}
+use Rattle.std.proofs.Common.{◌≡◌, ℕ, ◌+◌, ◌≤◌, ◌<◌, true, false, not, cond, List, [], ◌∷◌, ◌++◌, Some, None, Result, Ok, Err, refl, sym, ap, subst, ◌∙◌, append_assoc, ◌⊎◌, inl, inr, arith}
+use Rattle.std.specs.Prelude.{is_some}
 use Rattle.std.specs.declared.option.Option.{Option}
 use Rattle.std.specs.List.{list_all}
 use Rattle.std.proofs.lemmas.List.{append-nil}
@@ -9,14 +9,14 @@ use Rattle.grid_text.specs.declared.key.Key.{Key}
 use Rattle.grid_text.specs.declared.fault.GridFault.{GridFault}
 use Rattle.grid_text.specs.declared.fault.GridKind.TheVariants as kinds
 use Rattle.grid_text.specs.Tokens.{Token}
-use Rattle.grid_text.specs.Key.{key_of, is_required, is_value_of}
+use Rattle.grid_text.specs.Key.{key_of, is_value_of}
 use Rattle.grid_text.specs.Form.{Pair, pair_tokens, pairs_of, ends_pairs}
 use Rattle.grid_text.specs.Faults.{fault_at, place_of, is_too_large, HeadFault, Again, NoValue, TooLarge, Lacking, Alone}
 use Rattle.grid_text.specs.Reading.{is_filled, is_taken, pair_taken, word_alone, pairs_from}
 use Rattle.grid_text.proofs.Tools.{option_cases, bool_cases, ok_is, err_is, some_is, head_is, tail_is, not_filled, filled_or_not, filled}
 use Rattle.grid_text.proofs.Pairs.{taken_says, ends_at}
 use Rattle.grid_text.proofs.Heads.{ended_is, Lacks}
-use Rattle.grid_text.proofs.Order.{InOrder, order_from, order_end, order_behind}
+use Rattle.grid_text.proofs.Order.{InOrder, order_end, order_behind}
 
 -- one fault stands before the other, or they are one
 abbrev pub Apart : GridFault → GridFault → Type 0

@@ -1,6 +1,6 @@
 -- A head is read as what it says, and what is read as a head is one.
-use Rattle.std.proofs.Common.{◌≡◌, ◌≢◌, ℕ, ◌+◌, ◌*◌, ◌≤◌, ◌<◌, suc, Bool, true, false, ◌&&◌, not, cond, List, [], ◌∷◌, ◌++◌, length, map, Some, None, Result, Ok, Err, refl, sym, ap, subst, ◌∙◌, append_assoc, mul_comm, mul-le-mul_left, le_trans, arith}
-use Rattle.std.specs.Prelude.{filter, is_some, is_none, nat_lt, unwrap_or, codes}
+use Rattle.std.proofs.Common.{◌≡◌, ℕ, ◌*◌, ◌≤◌, ◌<◌, Bool, true, false, ◌&&◌, cond, List, [], ◌∷◌, ◌++◌, length, map, Some, None, Result, Ok, Err, refl, sym, ap, subst, ◌∙◌, append_assoc, mul_comm, mul-le-mul_left, le_trans, arith}
+use Rattle.std.specs.Prelude.{is_some, is_none, nat_lt, unwrap_or}
 use Rattle.std.specs.declared.option.Option.{Option}
 use Rattle.std.specs.Option.{option_and_then}
 use Rattle.std.specs.List.{list_all}
@@ -16,9 +16,9 @@ use Rattle.grid_text.specs.declared.fault.GridKind.TheVariants as kinds
 use Rattle.grid_text.specs.Tokens.{Token}
 use Rattle.grid_text.specs.Number.{number_of}
 use Rattle.grid_text.specs.Key.{key_of, is_required, is_value_of, above_zero, side_of}
-use Rattle.grid_text.specs.Form.{Pair, pair_tokens, names, is_pair_of, pairs_of, values_of, may_stand, is_pair, ends_pairs, placed, nodata_of, IsSize, IsHead}
+use Rattle.grid_text.specs.Form.{Pair, pair_tokens, names, is_pair_of, pairs_of, values_of, may_stand, is_pair, ends_pairs, placed, nodata_of, IsHead}
 use Rattle.grid_text.specs.Faults.{fault_at, side_before, are_too_many, is_too_large}
-use Rattle.grid_text.specs.Reading.{◌>>=◌, is_filled, is_taken, pair_taken, word_alone, pairs_from, Front, first_or, some_or, front_of}
+use Rattle.grid_text.specs.Reading.{is_filled, is_taken, pair_taken, word_alone, pairs_from, Front, first_or, some_or, front_of}
 use Rattle.grid_text.proofs.Tools.{option_cases, bool_cases, bind_gives, bind_fails, ok_is, err_is, some_is, head_is, one_of, one_long, nothing_before}
 use Rattle.grid_text.proofs.Pairs.{IsFine, same_key-true, pairs_of-same}
 

@@ -1,6 +1,6 @@
 -- The laws of reading: a text is read exactly where it is a grid, and its first fault is told exactly where it has one.
-use Rattle.std.proofs.Common.{◌≡◌, ℕ, ◌+◌, ◌*◌, ◌≤◌, ◌<◌, Bool, true, false, List, [], ◌∷◌, ◌++◌, length, map, Some, None, Result, Ok, Err, refl, sym, ap, subst, ◌∙◌, ◌⊎◌, inl, inr, arith}
-use Rattle.std.specs.Prelude.{◌↔◌, is_some}
+use Rattle.std.proofs.Common.{◌≡◌, ℕ, ◌*◌, ◌≤◌, true, List, [], ◌∷◌, ◌++◌, length, None, Ok, Err, refl, sym, ap, subst, ◌∙◌, inl, inr, arith}
+use Rattle.std.specs.Prelude.{is_some}
 use Rattle.std.specs.declared.option.Option.{Option}
 use Rattle.std.specs.List.{list_all}
 use Rattle.std.proofs.lemmas.Bool.{and_parts, and_from}
@@ -13,14 +13,14 @@ use Rattle.grid_text.specs.declared.fault.GridFault.{GridFault}
 use Rattle.grid_text.specs.declared.fault.GridKind.TheVariants as kinds
 use Rattle.grid_text.specs.Tokens.{Token, tokens}
 use Rattle.grid_text.specs.Key.{key_of}
-use Rattle.grid_text.specs.Form.{Pair, pair_tokens, may_stand, is_pair, ends_pairs, IsHead, Begins, cell_of, IsGrid}
-use Rattle.grid_text.specs.Faults.{fault_at, place_of, HeadFault, Lacking, CellFault, HasFault, InHead, InCells, IsFirstFault}
+use Rattle.grid_text.specs.Form.{Pair, pair_tokens, may_stand, is_pair, ends_pairs, IsHead, Begins, IsGrid}
+use Rattle.grid_text.specs.Faults.{fault_at, place_of, Lacking, CellFault, HasFault, InHead, InCells, IsFirstFault}
 use Rattle.grid_text.specs.Reading.{◌>>=◌, pairs_from, Front, front_of, cells_from, grid_of, GridsAreRead, FirstFaultsAreTold}
 use Rattle.grid_text.proofs.Tools.{option_cases, result_cases, bind_gives, bind_fails, ok_is}
 use Rattle.grid_text.proofs.Pairs.{nothing_fine, Stops, pairs_read}
-use Rattle.grid_text.proofs.Heads.{none_lacks, pairs_run, front_is, front_gives, Lacks, front_lacks}
+use Rattle.grid_text.proofs.Heads.{none_lacks, pairs_run, front_is, front_gives, front_lacks}
 use Rattle.grid_text.proofs.Order.{InOrder, order_behind, tokens_order}
-use Rattle.grid_text.proofs.HeadFaults.{Apart, Keyed, FailsAt, fails_at, head_first, read_lacks}
+use Rattle.grid_text.proofs.HeadFaults.{Apart, Keyed, fails_at, head_first, read_lacks}
 use Rattle.grid_text.proofs.CellFaults.{cells_are, cells_run, cells_fail, cells_right, cells_first}
 
 -- pairs with values that their keys may have begin with key words

@@ -1,7 +1,6 @@
 -- Tokens stand one behind the other.
-use Rattle.std.proofs.Common.{◌≡◌, ℕ, zero, ◌+◌, ◌≤◌, ◌<◌, suc, Bool, true, false, cond, List, [], ◌∷◌, ◌++◌, length, refl, sym, ap, subst, ◌∙◌, arith}
+use Rattle.std.proofs.Common.{◌≡◌, ℕ, ◌+◌, ◌≤◌, Bool, true, false, cond, List, [], ◌∷◌, ◌++◌, length, sym, subst, arith}
 use Rattle.grid_text.specs.Tokens.{Token, is_blank, ends_token, joined, tokens_from}
-use Rattle.grid_text.specs.Form.{Pair, pair_tokens}
 use Rattle.grid_text.proofs.Tools.{bool_cases}
 
 -- each token begins at the place or behind it, and ends before the next, or before the end

@@ -1,23 +1,22 @@
 -- What the pairs that are read keep.
-use Rattle.std.proofs.Common.{◌≡◌, ◌≢◌, ℕ, ◌+◌, ◌*◌, ◌≤◌, ◌<◌, suc, Bool, true, false, ◌&&◌, not, cond, List, [], ◌∷◌, ◌++◌, length, map, Some, None, Result, Ok, Err, refl, sym, ap, subst, ◌∙◌, append_assoc, length-append, mul_comm, ◌⊎◌, inl, inr, arith}
-use Rattle.std.specs.Prelude.{filter, is_some, is_none, nat_lt, unwrap_or}
+use Rattle.std.proofs.Common.{◌≡◌, ℕ, ◌*◌, ◌≤◌, true, false, ◌&&◌, not, cond, List, [], ◌∷◌, ◌++◌, length, map, Some, None, Result, Ok, Err, refl, sym, ap, subst, ◌∙◌, append_assoc, mul_comm, arith}
+use Rattle.std.specs.Prelude.{is_none, nat_lt, unwrap_or}
 use Rattle.std.specs.declared.option.Option.{Option}
 use Rattle.std.specs.List.{list_all}
 use Rattle.std.proofs.lemmas.List.{append-nil}
 use Rattle.std.proofs.lemmas.List.Elements.{filter-append}
 use Rattle.std.proofs.lemmas.List.Folds.{list_all-append}
-use Rattle.std.proofs.lemmas.Bool.{and_parts, and_from, ltb-false, le-ltb, not-true}
+use Rattle.std.proofs.lemmas.Bool.{and_parts, and_from, ltb-false, not-true}
 use Rattle.grid_text.specs.declared.key.Key.{Key}
 use Rattle.grid_text.specs.declared.key.Key.TheVariants.{Cols, Rows, X, Y, Size, Nodata}
-use Rattle.grid_text.specs.declared.grid.Head.{Head}
 use Rattle.grid_text.specs.declared.fault.GridFault.{GridFault}
 use Rattle.grid_text.specs.Tokens.{Token}
 use Rattle.grid_text.specs.Key.{key_of, same_key, is_value_of, side_of}
-use Rattle.grid_text.specs.Form.{Pair, pair_tokens, names, is_pair_of, pairs_of, values_of, may_stand, is_pair, ends_pairs, placed, nodata_of, IsSize, IsHead}
+use Rattle.grid_text.specs.Form.{Pair, pair_tokens, names, is_pair_of, pairs_of, values_of, may_stand, is_pair, ends_pairs}
 use Rattle.grid_text.specs.declared.fault.GridKind.TheVariants as kinds
 use Rattle.grid_text.specs.Faults.{fault_at, side_before, are_too_many, is_too_large}
 use Rattle.grid_text.specs.Reading.{is_filled, is_taken, pair_taken, word_alone, pairs_from}
-use Rattle.grid_text.proofs.Tools.{option_cases, bool_cases, list_cases, ok_is, head_is, tail_is, not_filled, one_of, one_long, nothing_before}
+use Rattle.grid_text.proofs.Tools.{option_cases, bool_cases, ok_is, head_is, not_filled}
 
 -- ---- keys
 

@@ -1,23 +1,21 @@
 -- A text is read by its pairs, its head and its cells in turn.
 use Rattle.std.proofs.Common.{◌≡◌, ℕ, ◌*◌, true, List, [], ◌∷◌, length, map, Some, None, Result, Ok, Err, refl, sym, ap, subst, ◌∙◌}
-use Rattle.std.specs.Prelude.{is_some, codes, IfOk, IfErr}
-use Rattle.std.specs.declared.option.Option.{Option}
+use Rattle.std.specs.Prelude.{codes, IfOk, IfErr}
 use Rattle.cell_values.specs.declared.kind.Kind.{Kind}
 use Rattle.cell_values.specs.declared.cell.Cell.{Cell}
 use Rattle.cell_values.specs.Decimal.{decimal_of}
 use Rattle.grid_text.specs.declared.key.Key.TheVariants.{Nodata}
 use Rattle.grid_text.specs.declared.grid.Grid.{Grid}
-use Rattle.grid_text.specs.declared.grid.Head.{Head}
 use Rattle.grid_text.specs.declared.fault.GridFault.{GridFault}
 use Rattle.grid_text.specs.declared.fault.GridKind.TheVariants as kinds
 use Rattle.grid_text.specs.declared.fault.ReadGrid.{ReadGrid}
 use Rattle.grid_text.specs.declared.fault.ReadGrid.TheVariants.{Fault, Memory}
-use Rattle.grid_text.specs.Tokens.{Token, tokens}
+use Rattle.grid_text.specs.Tokens.{tokens}
 use Rattle.grid_text.specs.Key.{is_value_of, is_nodata}
 use Rattle.grid_text.specs.Form.{Pair, pairs_of, values_of, nodata_of, IsHead, IsGrid}
 use Rattle.grid_text.specs.Faults.{fault_at, place_of}
-use Rattle.grid_text.specs.Reading.{◌>>=◌, pairs_from, Front, front_of, cells_from, grid_of, ReadsGrid, TellsFirst}
-use Rattle.grid_text.specs.Steps.{tokens_left, Fails, Gives, Values, AreValues, front_given, ReadsPairs}
+use Rattle.grid_text.specs.Reading.{◌>>=◌, Front, cells_from, grid_of, ReadsGrid, TellsFirst}
+use Rattle.grid_text.specs.Steps.{tokens_left, Fails, Values, front_given, ReadsPairs}
 use Rattle.grid_text.proofs.Tools.{some_is}
 use Rattle.grid_text.proofs.Pairs.{nothing_fine, pairs_read}
 use Rattle.grid_text.proofs.Heads.{front_gives, value_is}

@@ -1,15 +1,15 @@
 -- Decimals as values of a head and as cells.
-use Rattle.std.proofs.Common.{◌≡◌, ℕ, zero, suc, ◌+◌, ◌*◌, ◌≤◌, ◌<◌, ◌/◌, ◌%◌, ◌⊎◌, inl, inr, Bool, true, false, ◌&&◌, ◌||◌, not, cond, eqb, List, [], ◌∷◌, ◌++◌, length, Some, None, ℤ, pos, negsuc, neg_ℤ, Result, Ok, Err, refl, sym, ap, subst, ◌∙◌, le_antisymm, le_of_mul-le-mul_right, le_of_eq, mul-div_cancel, mul_comm, mul_assoc, add-mul, mul_right_comm, mul-one, zero-mul, lit<, arith}
+use Rattle.std.proofs.Common.{◌≡◌, ℕ, zero, suc, ◌+◌, ◌*◌, ◌<◌, ◌/◌, ◌%◌, ◌⊎◌, inl, inr, Bool, true, false, ◌&&◌, ◌||◌, not, cond, eqb, List, [], ◌∷◌, length, Some, None, ℤ, pos, Result, Ok, Err, refl, sym, ap, ◌∙◌, le_antisymm, le_of_mul-le-mul_right, le_of_eq, mul-div_cancel, mul_comm, mul_right_comm, zero-mul, lit<, arith}
 use Rattle.std.specs.Prelude.{is_some, nat_lt, nat_le, int_lt, ◌*ℤ◌, unsigned_abs, ◌==◌, codes}
 use Rattle.std.specs.declared.option.Option.{Option}
-use Rattle.std.specs.Option.{option_map, IsSome}
+use Rattle.std.specs.Option.{option_map}
 use Rattle.std.specs.Ordering.{int_eq}
 use Rattle.std.specs.Char.{to_ascii_lowercase, is_ascii_digit}
-use Rattle.std.specs.Str.{bytes_eq, str_to_ascii_lowercase}
+use Rattle.std.specs.Str.{str_to_ascii_lowercase}
 use Rattle.std.specs.Str.Parse.{starts_with_minus, without_leading_sign}
 use Rattle.std.proofs.Math.Bool.{beq}
 use Rattle.std.proofs.Math.Nat.{div-div-eq-div-mul, div-eq_of_lt, mul-mod_left}
-use Rattle.std.proofs.lemmas.Bool.{eqb-true, eqb-false, eq-eqb, ne_eqb, and_parts, and_right, false_from_ne_true, or_cases, or_parts, ltb-true, ltb-false, lt-ltb, le-ltb, lt-leb, cases_lt}
+use Rattle.std.proofs.lemmas.Bool.{eqb-true, eq-eqb, ne_eqb, and_parts, and_right, false_from_ne_true, or_cases, ltb-true, ltb-false, lt-leb}
 use Rattle.std.proofs.lemmas.Bool.Decides.{Decides-int_eq}
 use Rattle.std.proofs.lemmas.Int.{ints}
 use Rattle.std.proofs.lemmas.Slice.Eq.{bytes_eq-Decides}
@@ -18,7 +18,6 @@ use Rattle.cell_values.specs.declared.kind.Kind.TheVariants.{Boolean, Nominal, O
 use Rattle.cell_values.specs.declared.cell.Cell.{Cell}
 use Rattle.cell_values.specs.declared.cell.Cell.TheVariants.{Mv, Val}
 use Rattle.cell_values.specs.declared.cell.NumberFault.{NumberFault}
-use Rattle.cell_values.specs.declared.cell.NumberFault.TheVariants.{BadNumber, Range}
 use Rattle.cell_values.specs.Rounding.{nearest, nearest_size}
 use Rattle.cell_values.specs.Decimal.{Decimal, decimal_of, decimal_of_parts, has_digits, exponent_of, front_digits, behind_digits, fraction_digits, behind_fraction, numerator, denominator, size_of, with_sign}
 use Rattle.cell_values.specs.Reading.{quotient, number_taken, cell_taken, cell_of_decimal, cell_read, same_value}
@@ -29,7 +28,7 @@ use Rattle.cell_values.proofs.Readings.{nearest-signed, quotient-exact, quotient
 use Rattle.grid_text.specs.Key.{is_word, is_nan, is_nodata, is_positive, is_coordinate, is_cell_size}
 use Rattle.grid_text.specs.Form.{both_decimals, is_missing, cell_of}
 use Rattle.grid_text.specs.Steps.{number_of_cell, may_be_same}
-use Rattle.grid_text.proofs.Tools.{bool_cases, option_cases, some_is, head_is, tail_is}
+use Rattle.grid_text.proofs.Tools.{bool_cases, option_cases, some_is, head_is}
 
 -- ---- ratios
 

@@ -1,19 +1,12 @@
 -- Written numbers, as words that are read again.
-use Rattle.std.proofs.Common.{◌≡◌, ◌≢◌, ℕ, suc, ◌*◌, ◌/◌, ◌%◌, ◌^◌, ◌<◌, ◌≤◌, true, false, cond, eqb, ◌&&◌, List, [], ◌∷◌, length, Some, pos, negsuc, neg_ℤ, lit<, refl, sym, ap, subst, ◌∙◌, arith}
+use Rattle.std.proofs.Common.{◌≡◌, ℕ, ◌^◌, ◌<◌, ◌≤◌, true, false, eqb, ◌&&◌, List, [], ◌∷◌, length, Some, lit<, refl, ap, arith}
 use Rattle.std.specs.Prelude.{nat_lt, nat_le, decimal}
 use Rattle.std.specs.List.{list_all}
-use Rattle.std.specs.Option.{option_map}
 use Rattle.std.specs.Str.Parse.{digits_value, AllDigits}
-use Rattle.std.proofs.Math.Nat.{mul-div_cancel}
-use Rattle.std.proofs.lemmas.Bool.{and_parts, and_from, lt-ltb, le-leb, leb-true, ltb-true, ne_eqb, le-ltb}
+use Rattle.std.proofs.lemmas.Bool.{and_parts, and_from, lt-ltb, le-leb, leb-true, ltb-true, ne_eqb}
 use Rattle.std.proofs.lemmas.Fmt.{decimal_is_IsNumeral, length-decimal-le}
-use Rattle.std.proofs.lemmas.List.{append-nil}
 use Rattle.std.proofs.lemmas.Option.{cond_some}
 use Rattle.std.proofs.lemmas.Str.Parse.{digit_from_value}
-use Rattle.cell_values.specs.declared.cell.Cell.{Cell}
-use Rattle.cell_values.specs.declared.cell.Cell.TheVariants.{Mv, Val}
-use Rattle.cell_values.specs.declared.kind.Kind.TheVariants.{Scalar}
-use Rattle.cell_values.specs.Printed.{size_text, printed_cell}
 use Rattle.grid_text.specs.Number.{is_digit, number_of}
 use Rattle.grid_text.specs.Steps.{is_token_byte}
 use Rattle.grid_text.proofs.DigitLaws.{is_digit_byte}

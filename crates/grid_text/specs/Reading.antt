@@ -1,6 +1,6 @@
 -- The reading of a grid text as a function, for the course of a run: its grid or its first fault. What it means is said by
 -- the form and by the table of faults, and the laws below tie it to them.
-use Rattle.std.specs.Prelude.{◌≡◌, ◌↔◌, ℕ, zero, suc, ◌*◌, Bool, true, false, ◌&&◌, not, List, [], ◌∷◌, ◌++◌, length, map, codes, Some, None, Result, Ok, Err, if◌then◌else◌, ⊤}
+use Rattle.std.specs.Prelude.{◌≡◌, ◌↔◌, ℕ, zero, suc, ◌*◌, Bool, true, false, ◌&&◌, not, List, [], ◌∷◌, ◌++◌, length, map, Some, None, Result, Ok, Err, if◌then◌else◌, ⊤}
 use Rattle.std.specs.declared.option.Option.{Option}
 use Rattle.cell_values.specs.declared.kind.Kind.{Kind}
 use Rattle.cell_values.specs.declared.cell.Cell.{Cell}

@@ -1,9 +1,8 @@
 -- Words for the reader's own steps. What a reader of the crate is to believe stands in the other files.
-use Rattle.std.specs.Prelude.{◌≡◌, ◌≢◌, ℕ, ◌-◌, ◌*◌, ◌≤◌, ℤ, Bool, true, false, not, List, [], ◌∷◌, length, map, codes, nat_le, is_some, unwrap_or, Some, None, Result, Ok, Err, if◌then◌else◌, ⊤}
+use Rattle.std.specs.Prelude.{◌≡◌, ℕ, ◌-◌, ◌*◌, ◌≤◌, ℤ, Bool, true, false, not, List, [], ◌∷◌, length, map, codes, nat_le, is_some, unwrap_or, Some, None, Result, Ok, Err, if◌then◌else◌, ⊤}
 use Rattle.std.specs.declared.option.Option.{Option}
 use Rattle.std.specs.Ordering.{int_eq}
 use Rattle.std.specs.Option.{option_map, option_and_then, option_to_list, ok_or}
-use Rattle.cell_values.specs.declared.kind.Kind.{Kind}
 use Rattle.cell_values.specs.declared.cell.Cell.{Cell}
 use Rattle.cell_values.specs.declared.cell.Cell.TheVariants.{Mv, Val}
 use Rattle.cell_values.specs.declared.cell.NumberFault.{NumberFault}
@@ -13,7 +12,6 @@ use Rattle.grid_text.specs.declared.head.Place as place
 use Rattle.grid_text.specs.declared.head.Front as front
 use Rattle.grid_text.specs.declared.key.Key.{Key}
 use Rattle.grid_text.specs.declared.key.Key.TheVariants.{Cols, Rows, X, Y, Size, Nodata}
-use Rattle.grid_text.specs.declared.grid.Head.{Head}
 use Rattle.grid_text.specs.declared.fault.GridFault.{GridFault}
 use Rattle.grid_text.specs.declared.fault.ReadGrid.{ReadGrid}
 use Rattle.grid_text.specs.declared.fault.ReadGrid.TheVariants.{Fault, Memory}

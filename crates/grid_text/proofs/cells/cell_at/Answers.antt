@@ -1,7 +1,6 @@
-use Rattle.std.proofs.Common.{◌≡◌, true, false, Ok, sym, ◌∙◌, subst}
-use Rattle.cell_values.specs.declared.cell.Cell.TheVariants.{Mv}
+use Rattle.std.proofs.Common.{◌≡◌, true, false, sym, ◌∙◌, subst}
 use Rattle.std.proofs.lemmas.Slice.Eq.{bytes_eq-Decides}
-use Rattle.grid_text.specs.Form.{is_missing, cell_of}
+use Rattle.grid_text.specs.Form.{is_missing}
 use Rattle.grid_text.proofs.ValueLaws.{nodata_missing, cell_missing, cell_there, not_missing}
 use Rattle.grid_text.proofs.cells.cell_at.Goals as goal
 

@@ -1,19 +1,18 @@
-use Rattle.std.proofs.Common.{◌≡◌, ◌≤◌, ℕ, true, false, List, [], ◌∷◌, ◌++◌, length, Some, None, Result, Ok, Err, refl, sym, ap, ◌∙◌, arith}
+use Rattle.std.proofs.Common.{◌≡◌, ℕ, true, false, [], ◌∷◌, ◌++◌, length, Some, None, Err, sym, ap, ◌∙◌, arith}
 use Rattle.std.specs.declared.option.Option.{Option}
 use Rattle.std.specs.Option.{option_map}
 use Rattle.grid_text.specs.declared.key.Key.{Key}
 use Rattle.grid_text.specs.declared.head.Given as given
 use Rattle.grid_text.specs.declared.fault.GridFault.{GridFault}
-use Rattle.grid_text.specs.Tokens.{Token, tokens}
 use Rattle.grid_text.specs.Key.{key_of}
 use Rattle.grid_text.specs.Form.{Pair, pairs_of, ends_pairs}
 use Rattle.grid_text.specs.Reading.{is_filled, pairs_from}
-use Rattle.grid_text.specs.Steps.{tokens_left, token_view, Values, AreValues, given_view, with_value, ReadsPairs}
+use Rattle.grid_text.specs.Steps.{tokens_left, token_view, given_view, with_value}
 use Rattle.grid_text.proofs.Tools.{not_filled}
 use Rattle.grid_text.proofs.TokenLaws.{left_all}
 use Rattle.grid_text.proofs.Pairs.{ends_at}
 use Rattle.grid_text.proofs.Heads.{ends_read}
-use Rattle.grid_text.proofs.GivenLaws.{come_filled, front_values, with_values, step_read, again_read, alone_read, value_read, nothing_given}
+use Rattle.grid_text.proofs.GivenLaws.{come_filled, with_values, step_read, again_read, alone_read, value_read, nothing_given}
 use Rattle.grid_text.proofs.head.read_pairs.Goals as goal
 
 pub loop-word-init : goal.loop-word-init

@@ -1,9 +1,8 @@
-use Rattle.std.proofs.Common.{◌≡◌, ℕ, List, length, Result, Ok, Err, sym, ap, ◌∙◌, subst}
+use Rattle.std.proofs.Common.{◌≡◌, ℕ, length, sym, ap, ◌∙◌, subst}
 use Rattle.std.proofs.lemmas.Result.{err_from_is_err_and}
 use Rattle.grid_text.specs.declared.fault.GridFault.{GridFault}
 use Rattle.grid_text.specs.declared.fault.GridKind.TheVariants as kinds
 use Rattle.grid_text.specs.Faults.{fault_at, place_of}
-use Rattle.grid_text.specs.Reading.{Front}
 use Rattle.grid_text.specs.Steps.{tokens_left, Fails, given_view, front_given, front_view}
 use Rattle.grid_text.proofs.ReaderLaws.{front_fails, cells_fail, cells_give, nodata_good}
 use Rattle.grid_text.proofs.reader.read_whole.Goals as goal

@@ -1,8 +1,8 @@
-use Rattle.std.proofs.Common.{◌≡◌, ◌<◌, ◌≤◌, ◌-◌, ℕ, List, [], ◌∷◌, length, take, drop, ap, sym, ◌∙◌, subst, arith}
+use Rattle.std.proofs.Common.{◌≡◌, ◌<◌, ◌-◌, ℕ, List, [], ◌∷◌, length, drop, ap, sym, ◌∙◌, arith}
 use Rattle.std.proofs.lemmas.Bool.{eqb-true, eqb-false}
 use Rattle.std.proofs.lemmas.List.{nil_from_length}
 use Rattle.grid_text.specs.Tokens.{Token}
-use Rattle.grid_text.specs.Steps.{tokens_left, token_view}
+use Rattle.grid_text.specs.Steps.{tokens_left}
 use Rattle.grid_text.proofs.TokenLaws.{left_none, left_token}
 use Rattle.grid_text.proofs.tokens.next_token.Goals as goal
 

@@ -1,4 +1,4 @@
-use Rattle.std.proofs.Common.{◌≡◌, ◌≤◌, ◌+◌, ℕ, suc, List, length, ◌∷◌, ap, sym, ◌∙◌, arith}
+use Rattle.std.proofs.Common.{◌≤◌, suc, length, ap, sym, ◌∙◌, arith}
 use Rattle.grid_text.specs.Steps.{tokens_left}
 use Rattle.grid_text.proofs.TokenLaws.{left_blank}
 use Rattle.grid_text.proofs.tokens.skip_blanks.Goals as goal
