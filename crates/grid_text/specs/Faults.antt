@@ -44,31 +44,58 @@ is_too_large Nodata value before = false
 -- A fault that stands right behind these pairs, where the rest of the text begins: one case for each row of the table.
 pub data HeadFault (text_len : ℕ) (pairs : List Pair) (rest : List Token) (fault : GridFault) : Type 0 where
   -- a key word, or the other form of its corner, a second time
-  Again : (word : Token) (more : List Token) (key : Key) → rest ≡ word ∷ more → key_of word.bytes ≡ Some key → pairs_of key pairs ≢ [] → fault ≡ fault_at kinds.Head word.at → HeadFault text_len pairs rest fault
+  Again : (word : Token) (more : List Token) (key : Key)
+      → rest ≡ word ∷ more → key_of word.bytes ≡ Some key
+      → pairs_of key pairs ≢ []
+      → fault ≡ fault_at kinds.Head word.at → HeadFault text_len pairs rest fault
   -- a value that its key may not have
-  NoValue : (word value : Token) (more : List Token) (key : Key) → rest ≡ word ∷ value ∷ more → key_of word.bytes ≡ Some key → is_value_of key value.bytes ≡ false → fault ≡ fault_at kinds.Head value.at → HeadFault text_len pairs rest fault
+  NoValue : (word value : Token) (more : List Token) (key : Key)
+      → rest ≡ word ∷ value ∷ more → key_of word.bytes ≡ Some key
+      → is_value_of key value.bytes ≡ false
+      → fault ≡ fault_at kinds.Head value.at → HeadFault text_len pairs rest fault
   -- a number of rows or columns that gives too many cells
-  TooLarge : (word value : Token) (more : List Token) (key : Key) → rest ≡ word ∷ value ∷ more → key_of word.bytes ≡ Some key → is_too_large key value.bytes pairs ≡ true → fault ≡ fault_at kinds.Head value.at → HeadFault text_len pairs rest fault
+  TooLarge : (word value : Token) (more : List Token) (key : Key)
+      → rest ≡ word ∷ value ∷ more → key_of word.bytes ≡ Some key
+      → is_too_large key value.bytes pairs ≡ true
+      → fault ≡ fault_at kinds.Head value.at → HeadFault text_len pairs rest fault
   -- a key that is required and has not come when the pairs end
-  Lacking : (key : Key) → ends_pairs rest ≡ true → is_required key ≡ true → pairs_of key pairs ≡ [] → fault ≡ fault_at kinds.Head (place_of text_len rest) → HeadFault text_len pairs rest fault
+  Lacking : (key : Key)
+      → ends_pairs rest ≡ true
+      → is_required key ≡ true → pairs_of key pairs ≡ []
+      → fault ≡ fault_at kinds.Head (place_of text_len rest) → HeadFault text_len pairs rest fault
   -- a key word at the text's end
-  Alone : (word : Token) (key : Key) → rest ≡ word ∷ [] → key_of word.bytes ≡ Some key → fault ≡ fault_at kinds.Head text_len → HeadFault text_len pairs rest fault
+  Alone : (word : Token) (key : Key)
+      → rest ≡ word ∷ [] → key_of word.bytes ≡ Some key
+      → fault ≡ fault_at kinds.Head text_len → HeadFault text_len pairs rest fault
 
 -- A fault of the cells, behind a head that has none: one case for each row of the table.
 pub data CellFault (kind : Kind) (text_len count : ℕ) (nodata : List ℕ) (cells : List Token) (fault : GridFault) : Type 0 where
   -- a token that is no decimal and stands for no missing cell
-  NoDecimal : (before more : List Token) (token : Token) → cells ≡ before ++ token ∷ more → length before < count → cell_of kind nodata token.bytes ≡ Err numbers.BadNumber → fault ≡ fault_at kinds.BadNumber token.at → CellFault kind text_len count nodata cells fault
+  NoDecimal : (before more : List Token) (token : Token)
+      → cells ≡ before ++ token ∷ more → length before < count
+      → cell_of kind nodata token.bytes ≡ Err numbers.BadNumber
+      → fault ≡ fault_at kinds.BadNumber token.at → CellFault kind text_len count nodata cells fault
   -- a decimal without a value of the kind
-  OutOfRange : (before more : List Token) (token : Token) → cells ≡ before ++ token ∷ more → length before < count → cell_of kind nodata token.bytes ≡ Err numbers.Range → fault ≡ fault_at kinds.Range token.at → CellFault kind text_len count nodata cells fault
+  OutOfRange : (before more : List Token) (token : Token)
+      → cells ≡ before ++ token ∷ more → length before < count
+      → cell_of kind nodata token.bytes ≡ Err numbers.Range
+      → fault ≡ fault_at kinds.Range token.at → CellFault kind text_len count nodata cells fault
   -- a token after the last cell
-  Beyond : (before more : List Token) (token : Token) → cells ≡ before ++ token ∷ more → count ≤ length before → fault ≡ fault_at kinds.Count token.at → CellFault kind text_len count nodata cells fault
+  Beyond : (before more : List Token) (token : Token)
+      → cells ≡ before ++ token ∷ more → count ≤ length before
+      → fault ≡ fault_at kinds.Count token.at → CellFault kind text_len count nodata cells fault
   -- too few cells
   TooFew : length cells < count → fault ≡ fault_at kinds.Count text_len → CellFault kind text_len count nodata cells fault
 
 -- The text has the fault. The cells are looked at where the head has no fault, so at one place only one fault stands.
 pub data HasFault (kind : Kind) (text : List ℕ) (fault : GridFault) : Type 0 where
-  InHead : (pairs : List Pair) (rest : List Token) → Begins (tokens text) pairs rest → HeadFault (length text) pairs rest fault → HasFault kind text fault
-  InCells : (pairs : List Pair) (cells : List Token) (rows cols : ℕ) (head : Head) (nodata : List ℕ) → Begins (tokens text) pairs cells → ends_pairs cells ≡ true → IsHead pairs rows cols head nodata → CellFault kind (length text) (rows * cols) nodata cells fault → HasFault kind text fault
+  InHead : (pairs : List Pair) (rest : List Token)
+      → Begins (tokens text) pairs rest
+      → HeadFault (length text) pairs rest fault → HasFault kind text fault
+  InCells : (pairs : List Pair) (cells : List Token) (rows cols : ℕ) (head : Head) (nodata : List ℕ)
+      → Begins (tokens text) pairs cells → ends_pairs cells ≡ true
+      → IsHead pairs rows cols head nodata
+      → CellFault kind (length text) (rows * cols) nodata cells fault → HasFault kind text fault
 
 -- the fault of a text before which none stands
 pub record IsFirstFault (kind : Kind) (text : List ℕ) (fault : GridFault) : Type 0 where

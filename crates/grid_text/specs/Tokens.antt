@@ -18,12 +18,14 @@ ends_token (b ∷ bytes) = is_blank b
 -- a byte at a place before these tokens: it is a token of its own where none goes on, and else the first byte of the first
 abbrev pub joined : ℕ → ℕ → Bool → List Token → List Token
 joined at b alone [] = record { at = at; bytes = b ∷ [] } ∷ []
-joined at b alone (token ∷ more) = if alone then record { at = at; bytes = b ∷ [] } ∷ token ∷ more else record { at = at; bytes = b ∷ token.bytes } ∷ more
+joined at b alone (token ∷ more) =
+    if alone then record { at = at; bytes = b ∷ [] } ∷ token ∷ more else record { at = at; bytes = b ∷ token.bytes } ∷ more
 
 -- the tokens of bytes that stand in a text from a place on
 abbrev pub tokens_from : ℕ → List ℕ → List Token
 tokens_from at [] = []
-tokens_from at (b ∷ bytes) = if is_blank b then tokens_from (at + 1) bytes else joined at b (ends_token bytes) (tokens_from (at + 1) bytes)
+tokens_from at (b ∷ bytes) =
+    if is_blank b then tokens_from (at + 1) bytes else joined at b (ends_token bytes) (tokens_from (at + 1) bytes)
 
 -- the tokens of a text
 abbrev pub tokens : List ℕ → List Token

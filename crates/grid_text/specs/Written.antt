@@ -40,7 +40,8 @@ row_lines kind (suc rows) cols cells = row_line kind (take cols cells) ++ row_li
 
 -- the text of a grid
 unfoldable pub written_grid : Kind → ℕ → ℕ → Head → List Cell → List ℕ
-written_grid kind rows cols head cells = head_lines rows cols head ++ (key_line (codes "NODATA_value") (codes "1e31") ++ row_lines kind rows cols cells)
+written_grid kind rows cols head cells =
+    head_lines rows cols head ++ (key_line (codes "NODATA_value") (codes "1e31") ++ row_lines kind rows cols cells)
 
 -- the text of the values of a grid
 abbrev pub text_of : Kind → Grid → List ℕ
@@ -57,4 +58,5 @@ pub record AreGridValues (kind : Kind) (grid : Grid) : Type 0 where
 
 -- the text of such values is a grid with exactly these values, and with no others
 abbrev pub WrittenGridsReadBack : Type 0
-WrittenGridsReadBack = (kind : Kind) (grid : Grid) → AreGridValues kind grid → IsGrid kind (text_of kind grid) grid × ((other : Grid) → IsGrid kind (text_of kind grid) other → other ≡ grid)
+WrittenGridsReadBack = (kind : Kind) (grid : Grid) → AreGridValues kind grid
+    → IsGrid kind (text_of kind grid) grid × ((other : Grid) → IsGrid kind (text_of kind grid) other → other ≡ grid)

@@ -19,7 +19,7 @@ mod writer;
 
 pub use fault::{GridFault, GridKind, ReadGrid};
 pub use grid::{Grid, Head};
-pub use reader::{MAX_TEXT, first_faults_are_told, grids_are_read, read_grid};
+pub use reader::{first_faults_are_told, grids_are_read, read_grid};
 pub use writer::{write_grid, written_grids_read_back};
 
 #[cfg(test)]

@@ -15,9 +15,6 @@ use crate::tokens::next_token;
 use cell_values::Kind;
 use std::alloc::Global;
 
-/// The longest text that is read.
-pub const MAX_TEXT: usize = 268_435_456;
-
 // The place of the first token of the last bytes, or the text's length.
 fn place_of(text_len: usize, bytes: &[u8]) -> u64
     requires within { length bytes.now ≤ text_len }
@@ -52,11 +49,15 @@ fn read_whole(alloc: Global, kind: Kind, text: &[u8]) -> Result<Grid, ReadGrid>
     })
 }
 
-/// Reads a grid of the kind, an ESRI ASCII grid: pairs of a key word and its value in any order and any case, and then
-/// the cells row by row from the north, all separated by blanks. `Fault` comes exactly where the text is no such grid,
-/// with the first fault and its byte place.
+/// Reads a grid of the kind, an ESRI ASCII grid: pairs of a key word and its value, with the key words
+/// in any order and in any case, and then the cells row by row from the north, all separated by
+/// blanks. The key words are `ncols`, `nrows`, `xllcorner` or `xllcenter`, `yllcorner` or `yllcenter`,
+/// `cellsize`, and where the missing value is not -9999 `NODATA_value`, a decimal or `nan`. Rows and
+/// columns have 1 to 7 digits and make 1 to 4,194,304 cells; coordinates and the size of a cell are
+/// decimals of at most 64 bytes, and the size is above 0. A cell is missing where it has the exact
+/// value of the missing one. `Fault` comes exactly where the text is no such grid, with the first
+/// fault and its byte place.
 pub fn read_grid(alloc: Global, kind: Kind, text: &[u8]) -> Result<Grid, ReadGrid>
-    requires short { length text.now ≤ 268435456 }
     // The values are those of the text.
     ensures found { IfOk result (IsGrid kind text.now) }
     // A text that is a grid is read, unless memory runs out.

@@ -77,7 +77,6 @@ fn tells_the_first_fault(rt: HostRuntime) -> Result<(), Fail> {
             53,
         ),
     ] {
-        assert!(rt; text.len() < 100);
         let read = read_grid(rt.alloc(), kind, text.as_bytes());
         assert_eq!(rt;
             read.err(),
@@ -129,7 +128,6 @@ fn reads_grids(rt: HostRuntime) -> Result<(), Fail> {
             [half, Cell::Val(359_999_999)],
         ),
     ] {
-        assert!(rt; text.len() < 200);
         let grid = read_grid(rt.alloc(), kind, text.as_bytes())?;
         assert_eq!(rt; grid.cells.as_slice(), want.as_slice(), "for {text}");
     }
@@ -155,7 +153,6 @@ fn reads_what_it_writes(rt: HostRuntime) -> Result<(), Fail> {
     let want =
         "ncols 2\nnrows 2\nxllcenter -12.50\nyllcorner 0\ncellsize 1e2\nNODATA_value 1e31\n1.5 1e31\n-2 0\n";
     assert_eq!(rt; text.as_slice(), want.as_bytes());
-    assert!(rt; text.len() < 200);
     let grid = read_grid(rt.alloc(), Kind::Scalar, text.as_slice())?;
     assert_eq!(rt;
         (grid.rows, grid.cols, grid.head.x_center, grid.head.y_center),
