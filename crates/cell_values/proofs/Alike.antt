@@ -9,7 +9,7 @@ use Rattle.std.specs.Str.Parse.{digits_value}
 use Rattle.std.proofs.lemmas.Nat.{pow-add, same_from_place}
 use Rattle.std.proofs.lemmas.Bool.{cases_lt, lt-ltb, le-ltb, eqb-true, eq-eqb}
 use Rattle.std.proofs.lemmas.List.{ext_get_or, get_or_past, length-replicate}
-use Rattle.cell_values.specs.Decimal.{Decimal, IsDecimal, decimal_of, are_digits, denominator, numerator, raise, size_of, with_sign}
+use Rattle.cell_values.specs.Decimal.{Decimal, IsDecimal, decimal_of, are_digits, denominator, numerator, rise_of, size_of, with_sign}
 use Rattle.cell_values.specs.Reading.{HasSameValue, same_value}
 use Rattle.cell_values.specs.Parts.{IsWithin, digit_behind, is_zero}
 use Rattle.cell_values.proofs.Digits.{both, digit_byte, are_digits-append}
@@ -218,7 +218,7 @@ same_value-means x y = Decides-int_eq (numerator x *ℤ pos (denominator y)) (nu
 -- a decimal is 0 where each of its digits is
 pub zero_size : (d : Decimal) → are_digits (d.whole ++ d.fraction) ≡ true → (size_of d == 0) ≡ list_all is_zero (d.whole ++ d.fraction)
 unfolding size_of
-zero_size d p = zero_product (digits_value 10 (d.whole ++ d.fraction)) (10 ^ raise d.exponent) (power_pos (raise d.exponent)) ∙ zero_is (d.whole ++ d.fraction) p
+zero_size d p = zero_product (digits_value 10 (d.whole ++ d.fraction)) (10 ^ rise_of d.exponent) (power_pos (rise_of d.exponent)) ∙ zero_is (d.whole ++ d.fraction) p
 
 -- ---- the three ways to an answer
 pub by_sign : (s n z : Bool) → s ≡ true → n ≡ true → n ≡ (s && (n || z))

@@ -79,6 +79,13 @@ printed-decimal kind (Val z) is =
     let (d, text, value) = value-from_cell kind (printed_cell kind (Val z)) z (printed-back kind z is) in
     (d, text)
 
+-- so it is some bytes, each above the blank
+pub printed-some : (kind : Kind) (cell : Cell) → IsCell kind cell → 0 < length (printed_cell kind cell)
+printed-some kind cell is = decimal-some (printed_cell kind cell) (printed-decimal kind cell is)
+
+pub printed-visible : (p : ℕ → Bool) → ((b : ℕ) → 32 < b → p b ≡ true) → (kind : Kind) (cell : Cell) → IsCell kind cell → list_all p (printed_cell kind cell) ≡ true
+printed-visible p above kind cell is = decimal-visible p above (printed_cell kind cell) (printed-decimal kind cell is)
+
 -- ---- no value of a kind is that of a missing value
 far_quotient : (n : ℤ) (d : ℕ) (z : ℤ) → 0 < d → unsigned_abs z < 2 ^ 64 → n ≡ pos (10 ^ 31 * d) → IsQuotient n d z → ⊥
 far_quotient n d z some small same is =

@@ -13,9 +13,9 @@ use Rattle.cell_values.specs.declared.cell.Over.{Over}
 use Rattle.cell_values.specs.declared.read.Cut.{Cut}
 use Rattle.cell_values.specs.Kinds.{IsValue, is_value, cell_of, least, greatest}
 use Rattle.cell_values.specs.Rounding.{IsNearest, IsNearestSize, nearest, nearest_size}
-use Rattle.cell_values.specs.Decimal.{Decimal, IsDecimal, IsDecimalText, decimal_of, numerator, denominator, with_sign, fall}
+use Rattle.cell_values.specs.Decimal.{Decimal, IsDecimal, IsDecimalText, decimal_of, numerator, denominator, with_sign, fall_of}
 use Rattle.cell_values.specs.Parts.{IsCut, IsBeyond}
-use Rattle.cell_values.specs.Reading.{IsQuotient, IsTaken, HasValue, HasSomeValue, quotient, taken, cell_taken, cell_of_decimal, cell_read}
+use Rattle.cell_values.specs.Reading.{IsQuotient, IsTaken, HasValue, HasNoValue, IsCellOf, quotient, number_taken, cell_taken, cell_of_decimal, cell_read}
 use Rattle.cell_values.proofs.DecimalLaws.{decimal-from_text, text-from_decimal}
 use Rattle.cell_values.proofs.Nearest.{nearest_size-unique, nearest_size-IsNearestSize, nearest-pos, nearest-negsuc, nearest-IsNearest, nearest-unique}
 use Rattle.cell_values.proofs.Cuts.{power_pos}
@@ -139,7 +139,7 @@ cell-over kind z over h = over_case (is_value kind z) z over h
 -- ---- what is beyond 64 bits before it is rounded, is so after
 pub denominator_pos : (d : Decimal) → 0 < denominator d
 unfolding denominator
-denominator_pos d = power_pos (length d.fraction + fall d.exponent)
+denominator_pos d = power_pos (length d.fraction + fall_of d.exponent)
 
 nearest_over : (n d q : ℕ) → 0 < d → IsNearestSize n d q → (q < n / d) ⊎ (n / d ≤ q) → n / d ≤ q
 nearest_over n d q some is (inr over) = over
@@ -198,7 +198,7 @@ some_value z y h = cc
 near_back : (n : ℤ) (d : ℕ) (z : ℤ) → 0 < d → Some (nearest n d) ≡ Some z → IsNearest n (pos d) z
 near_back n d z some h = subst (λ q. IsNearest n (pos d) q) (some_value (nearest n d) z h) (nearest-IsNearest n d some)
 
-pub taken-from_value : (kind : Kind) (n : ℤ) (d : ℕ) (z : ℤ) → 0 < d → IsTaken kind n d z → taken kind n d ≡ Some z
+pub taken-from_value : (kind : Kind) (n : ℤ) (d : ℕ) (z : ℤ) → 0 < d → IsTaken kind n d z → number_taken kind n d ≡ Some z
 taken-from_value Boolean n d z some is = ap (λ m. quotient m d) (sym is) ∙ quotient_again z d some
 taken-from_value Nominal n d z some is = ap (λ m. quotient m d) (sym is) ∙ quotient_again z d some
 taken-from_value Ordinal n d z some is = ap (λ m. quotient m d) (sym is) ∙ quotient_again z d some
@@ -206,7 +206,7 @@ taken-from_value Scalar n d z some is = ap Some (sym (nearest-unique (pos 100000
 taken-from_value Directional n d z some is = ap Some (sym (nearest-unique (pos 1000000 *ℤ n) d z some is))
 taken-from_value Ldd n d z some is = ap (λ m. quotient m d) (sym is) ∙ quotient_again z d some
 
-pub value-from_taken : (kind : Kind) (n : ℤ) (d : ℕ) (z : ℤ) → 0 < d → taken kind n d ≡ Some z → IsTaken kind n d z
+pub value-from_taken : (kind : Kind) (n : ℤ) (d : ℕ) (z : ℤ) → 0 < d → number_taken kind n d ≡ Some z → IsTaken kind n d z
 value-from_taken Boolean n d z some h = quotient_back n d z h
 value-from_taken Nominal n d z some h = quotient_back n d z h
 value-from_taken Ordinal n d z some h = quotient_back n d z h
@@ -228,7 +228,7 @@ cell_back kind (Some y) z h =
 decimal_back : (kind : Kind) (o : Option Decimal) (z : ℤ) → cell_of_decimal kind o ≡ Ok (Val z) → (d : Decimal) × (o ≡ Some d) × HasValue kind d z
 decimal_back kind None z h = absurd (cc)
 decimal_back kind (Some d) z h =
-    let case = cell_back kind (taken kind (numerator d) (denominator d)) z h in
+    let case = cell_back kind (number_taken kind (numerator d) (denominator d)) z h in
     (d, refl, record { taken = value-from_taken kind (numerator d) (denominator d) z (denominator_pos d) case.0; value = case.1 })
 
 pub value-from_cell : (kind : Kind) (text : List ℕ) (z : ℤ) → cell_read kind text ≡ Ok (Val z) → (d : Decimal) × IsDecimal text d × HasValue kind d z
@@ -253,20 +253,16 @@ is_val kind (Some y) cell h = (y, no_mv kind (is_value kind y) y cell h)
 
 cell_is_val : (kind : Kind) (o : Option Decimal) (cell : Cell) → cell_of_decimal kind o ≡ Ok cell → (z : ℤ) × (cell ≡ Val z)
 cell_is_val kind None cell h = absurd (cc)
-cell_is_val kind (Some d) cell h = is_val kind (taken kind (numerator d) (denominator d)) cell h
+cell_is_val kind (Some d) cell h = is_val kind (number_taken kind (numerator d) (denominator d)) cell h
 
--- what the cell of a text is
-abbrev pub HasCell : Kind → List ℕ → Cell → Type 0
-HasCell kind text cell = (d : Decimal) × (z : ℤ) × IsDecimal text d × HasValue kind d z × (cell ≡ Val z)
-
-ok_has_cell : (kind : Kind) (text : List ℕ) (cell : Cell) → cell_read kind text ≡ Ok cell → HasCell kind text cell
+ok_has_cell : (kind : Kind) (text : List ℕ) (cell : Cell) → cell_read kind text ≡ Ok cell → IsCellOf kind text cell
 unfolding cell_read
 ok_has_cell kind text cell h =
     let (z, val) = cell_is_val kind (decimal_of text) cell h in
     let (d, is, has) = value-from_cell kind text z (h ∙ ap Ok val) in
     (d, z, is, has, val)
 
-pub cell-has_value : (kind : Kind) (text : List ℕ) (r : Result Cell NumberFault) → r ≡ cell_read kind text → IfOk r (HasCell kind text)
+pub cell-has_value : (kind : Kind) (text : List ℕ) (r : Result Cell NumberFault) → r ≡ cell_read kind text → IfOk r (IsCellOf kind text)
 cell-has_value kind text (Ok cell) h = ok_has_cell kind text cell (sym h)
 cell-has_value kind text (Err fault) h = tt
 
@@ -280,7 +276,7 @@ range_only kind (Some y) h = fault_case (is_value kind y) y h
 
 no_decimal : (kind : Kind) (o : Option Decimal) (d : Decimal) → cell_of_decimal kind o ≡ Err BadNumber → o ≡ Some d → ⊥
 no_decimal kind None d h some = cc
-no_decimal kind (Some e) d h some = range_only kind (taken kind (numerator e) (denominator e)) h
+no_decimal kind (Some e) d h some = range_only kind (number_taken kind (numerator e) (denominator e)) h
 
 pub bad-no_decimal : (kind : Kind) (text : List ℕ) → cell_read kind text ≡ Err BadNumber → ¬ (IsDecimalText text)
 unfolding cell_read
@@ -293,10 +289,6 @@ none_case kind (Some d) none = absurd (none d refl)
 pub no_decimal-bad : (kind : Kind) (text : List ℕ) → ¬ (IsDecimalText text) → cell_read kind text ≡ Err BadNumber
 unfolding cell_read
 no_decimal-bad kind text none = none_case kind (decimal_of text) (λ d h. none (d, text-from_decimal text d h))
-
--- a decimal without a value
-abbrev pub HasNoValue : Kind → List ℕ → Type 0
-HasNoValue kind text = (d : Decimal) × IsDecimal text d × ¬ (HasSomeValue kind d)
 
 range_decimal : (kind : Kind) (o : Option Decimal) → cell_of_decimal kind o ≡ Err Range → (d : Decimal) × (o ≡ Some d)
 range_decimal kind None h = absurd (cc)
@@ -323,7 +315,7 @@ value_case kind (Some y) none = test_case (is_value kind y) y none
     test_case true y none = absurd (none y refl)
     test_case false y none = refl
 
-cell_of_text : (kind : Kind) (text : List ℕ) (d : Decimal) → decimal_of text ≡ Some d → cell_read kind text ≡ cell_taken kind (taken kind (numerator d) (denominator d))
+cell_of_text : (kind : Kind) (text : List ℕ) (d : Decimal) → decimal_of text ≡ Some d → cell_read kind text ≡ cell_taken kind (number_taken kind (numerator d) (denominator d))
 unfolding cell_read
 cell_of_text kind text d h = rw h refl
 
@@ -334,7 +326,7 @@ pub no_value-range : (kind : Kind) (text : List ℕ) → HasNoValue kind text �
 no_value-range kind text (d, is, none) =
     let some = decimal-from_text text d is in
     let whole = cell_of_text kind text d some in
-    whole ∙ value_case kind (taken kind (numerator d) (denominator d)) (λ z h.
+    whole ∙ value_case kind (number_taken kind (numerator d) (denominator d)) (λ z h.
     let (e, is_e, has) = value-from_cell kind text z (whole ∙ h) in
     let same = same_value' text e d (decimal-from_text text e is_e) some in
     none (z, subst (λ x. HasValue kind x z) same has))

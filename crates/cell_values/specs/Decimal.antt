@@ -67,26 +67,26 @@ abbrev pub IsDecimalText : List ℕ → Type 0
 IsDecimalText text = (d : Decimal) × IsDecimal text d
 
 -- an exponent above 0, and else 0
-abbrev pub raise : ℤ → ℕ
-raise (pos n) = n
-raise (negsuc n) = 0
+abbrev pub rise_of : ℤ → ℕ
+rise_of (pos n) = n
+rise_of (negsuc n) = 0
 
 -- the size of an exponent below 0, and else 0
-abbrev pub fall : ℤ → ℕ
-fall (pos n) = 0
-fall (negsuc n) = suc n
+abbrev pub fall_of : ℤ → ℕ
+fall_of (pos n) = 0
+fall_of (negsuc n) = suc n
 
--- The exact value is a whole number over a power of ten: all digits in a row, raised by the exponent,
+-- all digits in a row, raised by an exponent above 0
 unfoldable pub size_of : Decimal → ℕ
-size_of d = digits_value 10 (d.whole ++ d.fraction) * 10 ^ raise d.exponent
+size_of d = digits_value 10 (d.whole ++ d.fraction) * 10 ^ rise_of d.exponent
 
--- with the sign,
+-- The exact value of a decimal is `numerator` over `denominator`: this whole number
 unfoldable pub numerator : Decimal → ℤ
 numerator d = with_sign d.negative (size_of d)
 
--- over ten for each digit behind the point, and for each step that the exponent falls.
+-- over this power of ten, one ten for each digit behind the point and for each step of an exponent below 0
 unfoldable pub denominator : Decimal → ℕ
-denominator d = 10 ^ (length d.fraction + fall d.exponent)
+denominator d = 10 ^ (length d.fraction + fall_of d.exponent)
 
 -- the digits at the front of a text
 abbrev pub front_digits : List ℕ → List ℕ

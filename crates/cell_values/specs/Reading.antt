@@ -9,7 +9,7 @@ use Rattle.cell_values.specs.declared.cell.NumberFault.{NumberFault}
 use Rattle.cell_values.specs.declared.cell.NumberFault.TheVariants.{BadNumber, Range}
 use Rattle.cell_values.specs.Kinds.{IsValue, is_value}
 use Rattle.cell_values.specs.Rounding.{IsNearest, nearest}
-use Rattle.cell_values.specs.Decimal.{Decimal, decimal_of, numerator, denominator, with_sign}
+use Rattle.cell_values.specs.Decimal.{Decimal, IsDecimal, decimal_of, numerator, denominator, with_sign}
 
 -- z is the whole number n / d itself
 abbrev pub IsQuotient : ℤ → ℕ → ℤ → Type 0
@@ -33,18 +33,26 @@ pub record HasValue (kind : Kind) (d : Decimal) (z : ℤ) : Type 0 where
 abbrev pub HasSomeValue : Kind → Decimal → Type 0
 HasSomeValue kind d = (z : ℤ) × HasValue kind d z
 
+-- the text is a decimal, and the cell its value of the kind
+abbrev pub IsCellOf : Kind → List ℕ → Cell → Type 0
+IsCellOf kind text cell = (d : Decimal) × (z : ℤ) × IsDecimal text d × HasValue kind d z × (cell ≡ Val z)
+
+-- the text is a decimal without a value of the kind
+abbrev pub HasNoValue : Kind → List ℕ → Type 0
+HasNoValue kind text = (d : Decimal) × IsDecimal text d × ¬ (HasSomeValue kind d)
+
 -- n / d where it is whole
 unfoldable pub quotient : ℤ → ℕ → Option ℤ
 quotient n d = if unsigned_abs n % d == 0 then Some (with_sign (int_lt n (pos 0)) (unsigned_abs n / d)) else None
 
 -- what a kind takes n / d for
-abbrev pub taken : Kind → ℤ → ℕ → Option ℤ
-taken Boolean n d = quotient n d
-taken Nominal n d = quotient n d
-taken Ordinal n d = quotient n d
-taken Scalar n d = Some (nearest (pos 1000000 *ℤ n) d)
-taken Directional n d = Some (nearest (pos 1000000 *ℤ n) d)
-taken Ldd n d = quotient n d
+abbrev pub number_taken : Kind → ℤ → ℕ → Option ℤ
+number_taken Boolean n d = quotient n d
+number_taken Nominal n d = quotient n d
+number_taken Ordinal n d = quotient n d
+number_taken Scalar n d = Some (nearest (pos 1000000 *ℤ n) d)
+number_taken Directional n d = Some (nearest (pos 1000000 *ℤ n) d)
+number_taken Ldd n d = quotient n d
 
 -- the cell of a number, or of none
 abbrev pub cell_taken : Kind → Option ℤ → Result Cell NumberFault
@@ -54,7 +62,7 @@ cell_taken kind (Some z) = if is_value kind z then Ok (Val z) else Err Range
 -- the cell of a decimal, or of a text that is none
 abbrev pub cell_of_decimal : Kind → Option Decimal → Result Cell NumberFault
 cell_of_decimal kind None = Err BadNumber
-cell_of_decimal kind (Some d) = cell_taken kind (taken kind (numerator d) (denominator d))
+cell_of_decimal kind (Some d) = cell_taken kind (number_taken kind (numerator d) (denominator d))
 
 -- the cell of the kind that the text stands for
 unfoldable pub cell_read : Kind → List ℕ → Result Cell NumberFault

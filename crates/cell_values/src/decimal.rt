@@ -5,7 +5,7 @@ ghost use Rattle.std.specs.Char.{is_ascii_digit};
 ghost use Rattle.std.specs.List.{prefix_len};
 ghost use Rattle.std.specs.Option.{option_map};
 ghost use Rattle.std.specs.Str.Parse.{digits_value, starts_with_minus, without_leading_sign};
-ghost use Rattle.cell_values.specs.Decimal.{Decimal, IsDecimal, IsDecimalText, are_digits, behind_digits, behind_fraction, decimal_of, exponent_of, fall, fraction_digits, front_digits, has_digits, is_power_letter, is_short_numeral, raise, with_sign};
+ghost use Rattle.cell_values.specs.Decimal.{Decimal, IsDecimal, IsDecimalText, are_digits, behind_digits, behind_fraction, decimal_of, exponent_of, fall_of, fraction_digits, front_digits, has_digits, is_power_letter, is_short_numeral, rise_of, with_sign};
 
 use crate::digit_row::{Row, number_after};
 
@@ -14,8 +14,8 @@ const MOST_BYTES: usize = 128;
 
 const MOST_DIGITS: usize = 6;
 
-/// A decimal by its parts: whether a minus stands first, the digits before and behind the point, whether the exponent is
-/// below 0, and its size.
+/// A decimal by its parts: whether a minus stands first, the digits before and behind the point, whether the
+/// exponent is below 0, and its size.
 #[derive(Clone, Copy)]
 pub(crate) struct Parts<'a> {
     pub(crate) negative: bool,
@@ -65,16 +65,16 @@ impl Parts<'_> {
     }
 
     /// The exponent where it is above 0, and else 0.
-    pub(crate) fn raised(&self) -> usize
-        ensures value { result ≡ raise (with_sign self.now.falls self.now.power) }
+    pub(crate) fn rise(&self) -> usize
+        ensures value { result ≡ rise_of (with_sign self.now.falls self.now.power) }
         ensures small { result < 1000000 }
     {
         if self.falls { 0 } else { self.power }
     }
 
     /// The size of the exponent where it is below 0, and else 0.
-    pub(crate) fn fallen(&self) -> usize
-        ensures value { result ≡ fall (with_sign self.now.falls self.now.power) }
+    pub(crate) fn fall(&self) -> usize
+        ensures value { result ≡ fall_of (with_sign self.now.falls self.now.power) }
         ensures small { result < 1000000 }
     {
         if self.falls { self.power } else { 0 }
@@ -184,8 +184,8 @@ fn read_power(text: &[u8]) -> Option<(bool, usize)>
     }
 }
 
-/// Whether the text is a decimal: a sign or none, digits with at most one point, and an exponent of one to six digits
-/// or none, in at most 128 bytes.
+/// Whether the text is a decimal: a sign or none, digits with at most one point and at least one digit, and an
+/// exponent of one to six digits or none, in at most 128 bytes.
 pub fn is_decimal(text: &[u8]) -> bool
     ensures reading { result ≡ is_some (decimal_of text.now) }
     ensures grammar { IsTrue result ↔ IsDecimalText text.now }

@@ -71,7 +71,8 @@ impl Row<'_> {
 
     /// The number that the digits write, where it has at most 64 bits.
     pub(crate) fn number(&self) -> Option<u64>
-        ensures { MatchOption result (2 ^ 64 ≤ digits_value 10 (row_digits self.now)) (λ n. n ≡ digits_value 10 (row_digits self.now)) }
+        ensures { let value = digits_value 10 (row_digits self.now) in
+            MatchOption result (2 ^ 64 ≤ value) (λ n. n ≡ value) }
     {
         match number_after(0, self.first) {
             Some(number) => number_after(number, self.second),
@@ -116,7 +117,8 @@ fn back(digits: &[u8], count: usize) -> &[u8]
 // The number with one more digit, where it has at most 64 bits.
 fn with_digit(number: u64, digit: u8) -> Option<u64>
     requires { IsTrue (is_ascii_digit digit) }
-    ensures { SomeIff result (number * 10 + digit_value digit < 2 ^ 64) (number * 10 + digit_value digit) }
+    ensures { let value = number * 10 + digit_value digit in
+        SomeIff result (value < 2 ^ 64) value }
 {
     number.checked_mul(10)?.checked_add(u64::from(digit - b'0'))
 }
@@ -124,7 +126,8 @@ fn with_digit(number: u64, digit: u8) -> Option<u64>
 /// The number that the digits write behind those of `number`, where it has at most 64 bits.
 pub(crate) fn number_after(number: u64, digits: &[u8]) -> Option<u64>
     requires { IsTrue (are_digits digits.now) }
-    ensures { MatchOption result (2 ^ 64 ≤ digits_value_after 10 number digits.now) (λ n. n ≡ digits_value_after 10 number digits.now) }
+    ensures { let value = digits_value_after 10 number digits.now in
+        MatchOption result (2 ^ 64 ≤ value) (λ n. n ≡ value) }
 {
     let mut total = number;
     for digit in digits {

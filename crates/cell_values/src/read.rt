@@ -6,7 +6,7 @@ ghost use Rattle.cell_values.specs.Parts.{IsBeyond, IsCut, decimal_with, row_dig
 ghost use Rattle.cell_values.specs.Kinds.{IsValue};
 ghost use Rattle.cell_values.specs.Printed.{printed_cell};
 ghost use Rattle.cell_values.specs.Rounding.{nearest};
-ghost use Rattle.cell_values.specs.Reading.{HasSomeValue, HasValue, cell_read, quotient, taken};
+ghost use Rattle.cell_values.specs.Reading.{HasNoValue, HasValue, IsCellOf, cell_read, quotient, number_taken};
 
 use crate::cell::{Cell, NumberFault};
 use crate::decimal::Parts;
@@ -49,10 +49,12 @@ fn half_behind(back: &Row<'_>, fallen: usize, top: usize) -> bool
 // The size of a decimal in units of 10 to the power of `-places`, where the whole units have at most 64 bits.
 fn cut_at(parts: &Parts<'_>, places: usize) -> Option<Cut>
     requires { places ≤ 6 }
-    ensures { MatchOption result (2 ^ 64 ≤ 10 ^ places * size_of (decimal_with parts.now) / denominator (decimal_with parts.now)) (λ cut. IsCut (10 ^ places * size_of (decimal_with parts.now)) (denominator (decimal_with parts.now)) cut) }
+    ensures { let d = decimal_with parts.now in MatchOption result
+        (2 ^ 64 ≤ 10 ^ places * size_of d / denominator d)
+        (λ cut. IsCut (10 ^ places * size_of d) (denominator d) cut) }
 {
-    let top = parts.whole.len() + parts.raised() + places;
-    let fallen = parts.fallen();
+    let top = parts.whole.len() + parts.rise() + places;
+    let fallen = parts.fall();
     let count = top.saturating_sub(fallen);
     let row = parts.row();
     let Some(number) = row.front(count).number() else {
@@ -79,7 +81,9 @@ fn signed(negative: bool, size: u64, more: bool) -> i128
 
 // The nearest number of millionths, unless it is beyond 64 bits.
 fn nearest_in(parts: &Parts<'_>) -> Option<i128>
-    ensures { MatchOption result (2 ^ 64 ≤ unsigned_abs (nearest (pos 1000000 *ℤ numerator (decimal_with parts.now)) (denominator (decimal_with parts.now)))) (λ z. nearest (pos 1000000 *ℤ numerator (decimal_with parts.now)) (denominator (decimal_with parts.now)) ≡ z) }
+    ensures { let d = decimal_with parts.now in MatchOption result
+        (2 ^ 64 ≤ unsigned_abs (nearest (pos 1000000 *ℤ numerator d) (denominator d)))
+        (λ z. nearest (pos 1000000 *ℤ numerator d) (denominator d) ≡ z) }
 {
     let Some(cut) = cut_at(parts, PLACES) else {
         return None;
@@ -89,7 +93,9 @@ fn nearest_in(parts: &Parts<'_>) -> Option<i128>
 
 // The whole number that the decimal is, if it is one, unless it is beyond 64 bits.
 fn whole_in(parts: &Parts<'_>) -> Option<i128>
-    ensures { MatchOption result (IsBeyond (quotient (numerator (decimal_with parts.now)) (denominator (decimal_with parts.now)))) (λ z. quotient (numerator (decimal_with parts.now)) (denominator (decimal_with parts.now)) ≡ Some z) }
+    ensures { let d = decimal_with parts.now in MatchOption result
+        (IsBeyond (quotient (numerator d) (denominator d)))
+        (λ z. quotient (numerator d) (denominator d) ≡ Some z) }
 {
     let Some(cut) = cut_at(parts, 0) else {
         return None;
@@ -103,7 +109,9 @@ fn whole_in(parts: &Parts<'_>) -> Option<i128>
 
 // What the kind takes the decimal for, unless that is beyond 64 bits.
 fn value_in(kind: Kind, parts: &Parts<'_>) -> Option<i128>
-    ensures { MatchOption result (IsBeyond (taken kind (numerator (decimal_with parts.now)) (denominator (decimal_with parts.now)))) (λ z. taken kind (numerator (decimal_with parts.now)) (denominator (decimal_with parts.now)) ≡ Some z) }
+    ensures { let d = decimal_with parts.now in MatchOption result
+        (IsBeyond (number_taken kind (numerator d) (denominator d)))
+        (λ z. number_taken kind (numerator d) (denominator d) ≡ Some z) }
 {
     match kind {
         Kind::Scalar | Kind::Directional => nearest_in(parts),
@@ -127,23 +135,27 @@ fn cell_in(kind: Kind, text: &[u8]) -> Result<Cell, NumberFault>
     }
 }
 
-/// The cell of the kind that a decimal text stands for. Scalars and directions are rounded to millionths, ties away from
-/// zero, before their range is judged; the other kinds take exact values alone.
+/// The cell of the kind that a decimal text stands for. Scalars and directions are rounded to millionths,
+/// ties away from zero, before their range is judged; the other kinds take exact values alone.
+/// `BadNumber` comes exactly where the text is no decimal, `Range` exactly where it is one without a value
+/// of the kind. Takes time in proportion to the text.
 pub fn read_cell(kind: Kind, text: &[u8]) -> Result<Cell, NumberFault>
     ensures reading { result ≡ cell_read kind text.now }
-    ensures value { IfOk result (λ cell. (d : Decimal) × (z : ℤ) × IsDecimal text.now d × HasValue kind d z × (cell ≡ Cell.Val z)) }
+    ensures value { IfOk result (IsCellOf kind text.now) }
     ensures bad_number { (result ≡ Err NumberFault.BadNumber) ↔ ¬ (IsDecimalText text.now) }
-    ensures range { (result ≡ Err NumberFault.Range) ↔ ((d : Decimal) × IsDecimal text.now d × ¬ (HasSomeValue kind d)) }
+    ensures range { (result ≡ Err NumberFault.Range) ↔ HasNoValue kind text.now }
 {
     cell_in(kind, text)
 }
 
 /// A text has at most one cell of a kind, and `cell_read` finds it.
 pub fn one_cell()
-    ensures { (kind : Kind) (text : List ℕ) (z : ℤ) → (cell_read kind text ≡ Ok (Cell.Val z)) ↔ ((d : Decimal) × IsDecimal text d × HasValue kind d z) }
+    ensures { (kind : Kind) (text : List ℕ) (z : ℤ) →
+        (cell_read kind text ≡ Ok (Cell.Val z)) ↔ ((d : Decimal) × IsDecimal text d × HasValue kind d z) }
 {}
 
 /// What is printed reads back.
 pub fn printed_reads_back()
-    ensures { (kind : Kind) (z : ℤ) → IsValue kind z → cell_read kind (printed_cell kind (Cell.Val z)) ≡ Ok (Cell.Val z) }
+    ensures { (kind : Kind) (z : ℤ) → IsValue kind z →
+        cell_read kind (printed_cell kind (Cell.Val z)) ≡ Ok (Cell.Val z) }
 {}

@@ -34,10 +34,11 @@ fn is_within(row: &Row<'_>, start: usize, other: &Row<'_>, other_start: usize) -
 
 // Whether two decimals have one size.
 fn same_size(a: &Parts<'_>, b: &Parts<'_>) -> bool
-    ensures { result ≡ (size_of (decimal_with a.now) * denominator (decimal_with b.now) == size_of (decimal_with b.now) * denominator (decimal_with a.now)) }
+    ensures { let x = decimal_with a.now in let y = decimal_with b.now in
+        result ≡ (size_of x * denominator y == size_of y * denominator x) }
 {
-    let a_start = b.whole.len() + b.raised() + a.fallen();
-    let b_start = a.whole.len() + a.raised() + b.fallen();
+    let a_start = b.whole.len() + b.rise() + a.fall();
+    let b_start = a.whole.len() + a.rise() + b.fall();
     let (a, b) = (a.row(), b.row());
     is_within(&a, a_start, &b, b_start) && is_within(&b, b_start, &a, a_start)
 }
@@ -49,12 +50,14 @@ fn same_parts(a: &Parts<'_>, b: &Parts<'_>) -> bool
     same_size(a, b) && (a.negative == b.negative || a.row().is_zero())
 }
 
-/// Whether two decimals have one exact value.
+/// Whether two decimals have one exact value: nothing is rounded. Takes time in proportion to the texts.
 pub fn same_decimal(a: &[u8], b: &[u8]) -> bool
     requires first { IsSome (decimal_of a.now) }
     requires second { IsSome (decimal_of b.now) }
-    ensures reading { (x y : Decimal) → decimal_of a.now ≡ Some x → decimal_of b.now ≡ Some y → result ≡ same_value x y }
-    ensures exact { (x y : Decimal) → IsDecimal a.now x → IsDecimal b.now y → IsTrue result ↔ HasSameValue x y }
+    ensures reading { (x y : Decimal) → decimal_of a.now ≡ Some x → decimal_of b.now ≡ Some y →
+        result ≡ same_value x y }
+    ensures exact { (x y : Decimal) → IsDecimal a.now x → IsDecimal b.now y →
+        IsTrue result ↔ HasSameValue x y }
 {
     let Some(a) = Parts::of(a) else {
         return false;

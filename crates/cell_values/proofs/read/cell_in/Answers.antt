@@ -3,7 +3,7 @@ use Rattle.std.proofs.lemmas.Int.{to_z-of_z}
 use mir.Syntax.{w128}
 use Rattle.cell_values.specs.Decimal.{numerator, denominator}
 use Rattle.cell_values.specs.Parts.{decimal_with}
-use Rattle.cell_values.specs.Reading.{cell_read, cell_of_decimal, cell_taken, taken}
+use Rattle.cell_values.specs.Reading.{cell_read, cell_of_decimal, cell_taken, number_taken}
 use Rattle.cell_values.proofs.Readings.{cell-ok, cell-over, beyond-cell}
 use Rattle.cell_values.proofs.read.cell_in.Goals as goal
 
@@ -15,7 +15,7 @@ pub returns-in_default-value_in : goal.returns-in_default-value_in
 unfolding cell_read
 returns-in_default-value_in c =
     let d = decimal_with c.in-Some.parts in
-    beyond-cell c.args.kind (taken c.args.kind (numerator d) (denominator d)) c.in_default-value_in.ensures ∙ ap (cell_of_decimal c.args.kind) c.in-Some.ensures
+    beyond-cell c.args.kind (number_taken c.args.kind (numerator d) (denominator d)) c.in_default-value_in.ensures ∙ ap (cell_of_decimal c.args.kind) c.in-Some.ensures
 
 pub returns-in-Ok : goal.returns-in-Ok
 unfolding cell_read

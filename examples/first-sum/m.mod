@@ -1,0 +1,1 @@
+binding A = a.asc; B = b.asc; areamap A; initial report C = A + B;
