@@ -138,7 +138,8 @@ fn refuses_by_name_and_place(rt: HostRuntime) -> Result<(), Fail> {
             SUM,
             LARGE,
             LARGE,
-            "overflow step 0 statement 1 operation 1 row 1 col 2\n",
+            "overflow step 0 statement 1 operation 1 row \
+             1 col 2\n",
             5,
         ),
     ] {
