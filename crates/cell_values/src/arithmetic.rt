@@ -12,7 +12,7 @@ use crate::range::to_cell;
 use crate::rounding::{round_div, round_quotient};
 
 /// How many millionths make one.
-const MILLION: i128 = 1_000_000;
+pub(crate) const MILLION: i128 = 1_000_000;
 
 /// The sum of two scalars. A missing operand gives a missing value; `Over` comes exactly where the sum is no
 /// scalar.

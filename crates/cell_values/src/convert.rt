@@ -1,14 +1,12 @@
 //! Conversions between kinds.
 
-ghost use Rattle.std.specs.Prelude.{◌≡◌, FitsSigned};
+ghost use Rattle.std.specs.Prelude.{◌≡◌};
 ghost use Rattle.cell_values.specs.Conversion.{IsConversion, conversion_of, converted};
 
+use crate::arithmetic::MILLION;
 use crate::cell::{Cell, Over};
 use crate::kind::Kind;
 use crate::range::to_cell;
-
-/// How many millionths make one.
-const MILLION: i128 = 1_000_000;
 
 /// How many millionths of a degree make a full turn.
 const TURN: i128 = 360_000_000;

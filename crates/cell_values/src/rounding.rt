@@ -1,6 +1,6 @@
 //! Rounding to whole numbers.
 
-ghost use Rattle.std.specs.Prelude.{◌≡◌, ◌≢◌, ◌↔◌, ◌^◌, ◌<◌, ◌≤◌, ℕ, ℤ, pos, neg_ℤ, unsigned_abs, ◌<ℤ◌, ◌≤ℤ◌};
+ghost use Rattle.std.specs.Prelude.{◌≡◌, ◌≢◌, ◌↔◌, ◌^◌, ◌<◌, ◌≤◌, ℕ, ℤ, pos, unsigned_abs, ◌<ℤ◌};
 ghost use Rattle.cell_values.specs.Rounding.{IsNearest, IsNearestSize, nearest, nearest_quotient};
 
 // The nearest whole number to `size / d`, and the greater one where two are as near.

@@ -69,7 +69,13 @@ fn sums_two_grids(rt: HostRuntime) -> Result<(), Fail> {
     let end = lue_plain(rt.alloc(), &words, &mut folder, &mut out);
     assert_eq!(rt; status(&end), 0);
     assert_eq!(rt; FOUR_SIX.len(), 73);
-    expect(&rt, &folder, &out, &[("C", FOUR_SIX)], "done files=1 steps=0\n");
+    expect(
+        &rt,
+        &folder,
+        &out,
+        &[("C", FOUR_SIX)],
+        "done files=1 steps=0\n",
+    );
     Ok(())
 }
 
@@ -119,10 +125,23 @@ fn tells_a_line_that_is_not_written(rt: HostRuntime) -> Result<(), Fail> {
 fn refuses_by_name_and_place(rt: HostRuntime) -> Result<(), Fail> {
     for (script, a, b, line, answer) in [
         (TURNED, ONE_TWO, THREE_FOUR, "unbuilt m.mod\n", 11),
-        (SUM, ONE_CELL_SHORT, THREE_FOUR, "input a.asc grid count 53\n", 4),
+        (
+            SUM,
+            ONE_CELL_SHORT,
+            THREE_FOUR,
+            "input a.asc grid count 53\n",
+            4,
+        ),
         (SUM, ONE_TWO, "1 2", "input b.asc grid head 0\n", 4),
         (SUM, ONE_TWO, THREE_CELLS, "input b.asc size 1 3\n", 4),
-        (SUM, LARGE, LARGE, "overflow step 0 statement 1 operation 1 row 1 col 2\n", 5),
+        (
+            SUM,
+            LARGE,
+            LARGE,
+            "overflow step 0 statement 1 operation 1 row \
+             1 col 2\n",
+            5,
+        ),
     ] {
         let mut folder = folder_of(rt.alloc(), script, a, b)?;
         let mut out = MemSink::new();
@@ -136,7 +155,15 @@ fn refuses_by_name_and_place(rt: HostRuntime) -> Result<(), Fail> {
 
 #[test]
 fn takes_no_other_words(rt: HostRuntime) -> Result<(), Fail> {
-    for text in ["", "plain", "plain a/b", "plain m.mod 1", "run m.mod 1 1 1", "make 7", "--help"] {
+    for text in [
+        "",
+        "plain",
+        "plain a/b",
+        "plain m.mod 1",
+        "run m.mod 1 1 1",
+        "make 7",
+        "--help",
+    ] {
         let mut folder = folder_of(rt.alloc(), SUM, ONE_TWO, THREE_FOUR)?;
         folder.fail_on(vec![in rt.alloc(); 1]?);
         let mut out = MemSink::new();
