@@ -14,3 +14,4 @@ pub mod CellLaws
 pub mod ValueLaws
 pub mod ReaderLaws
 pub mod BackLaws
+pub mod WriteLaws

@@ -60,3 +60,7 @@ pub record AreGridValues (kind : Kind) (grid : Grid) : Type 0 where
 abbrev pub WrittenGridsReadBack : Type 0
 WrittenGridsReadBack = (kind : Kind) (grid : Grid) → AreGridValues kind grid
     → IsGrid kind (text_of kind grid) grid × ((other : Grid) → IsGrid kind (text_of kind grid) other → other ≡ grid)
+
+-- the values of a grid that is read can be written
+abbrev pub GridsCanBeWritten : Type 0
+GridsCanBeWritten = (kind : Kind) (text : List ℕ) (grid : Grid) → IsGrid kind text grid → AreGridValues kind grid

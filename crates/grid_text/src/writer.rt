@@ -2,7 +2,7 @@
 
 ghost use Rattle.std.specs.Prelude.{◌≡◌, ◌*◌, ◌<◌, ◌≤◌, ◌++◌, length, decimal, OnOk, IfOk};
 ghost use Rattle.grid_text.specs.Form.{IsSize};
-ghost use Rattle.grid_text.specs.Written.{key_line, head_lines, row_line, written_grid, WrittenGridsReadBack};
+ghost use Rattle.grid_text.specs.Written.{key_line, head_lines, row_line, written_grid, GridsCanBeWritten, WrittenGridsReadBack};
 
 use crate::grid::Head;
 use cell_values::{Cell, Kind, print_cell};
@@ -87,4 +87,9 @@ pub fn write_grid(
 /// A written text is read back as exactly the values that were written, and as no others.
 pub fn written_grids_read_back()
     ensures { WrittenGridsReadBack }
+{}
+
+/// What is read can be written, so it is read back from its written text.
+pub fn grids_can_be_written()
+    ensures { GridsCanBeWritten }
 {}
