@@ -19,7 +19,7 @@ demo: build
 # The gate: every proof, must-fail edit, test and program, and then the examples and messages of the built program.
 test:
 	rt ci
-	@$(MAKE) --no-print-directory build
+	@test -x $(PROGRAM) || $(MAKE) --no-print-directory build
 	@scripts/check-program $(PROGRAM)
 
 install: build

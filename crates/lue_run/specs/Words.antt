@@ -1,18 +1,11 @@
 -- The words of a call, and the command that they give.
-use Rattle.std.specs.Prelude.{List, ℕ, Bool, false, ◌&&◌, ◌||◌, ◌==◌, nat_le, [], ◌∷◌, Some, None, codes, bytes_eq, if◌then◌else◌, length}
+use Rattle.std.specs.Prelude.{List, ℕ, Bool, false, ◌&&◌, nat_le, [], ◌∷◌, Some, None, codes, bytes_eq, if◌then◌else◌, length}
 use Rattle.std.specs.List.{list_all}
 use Rattle.std.specs.Option.{option_map}
 use Rattle.std.specs.declared.option.Option.{Option}
+use Rattle.script_syntax.specs.Tokens.{is_word_byte, is_file_byte}
 
--- a letter, a digit or `_`
-abbrev pub is_word_byte : ℕ → Bool
-is_word_byte b = (nat_le 48 b && nat_le b 57) || (nat_le 65 b && nat_le b 90) || (nat_le 97 b && nat_le b 122) || (b == 95)
-
--- a letter, a digit, `_`, `.`, `-` or `+`
-abbrev pub is_file_byte : ℕ → Bool
-is_file_byte b = is_word_byte b || (b == 46) || (b == 45) || (b == 43)
-
--- a word that names a file: at most 64 such bytes, of which the first is a letter, a digit or `_`
+-- a word that names a file: at most 64 letters, digits, `_`, `.`, `-` and `+`, of which the first is a letter, a digit or `_`
 abbrev pub is_file_word : List ℕ → Bool
 is_file_word [] = false
 is_file_word (b ∷ bytes) = is_word_byte b && nat_le (length bytes) 63 && list_all is_file_byte bytes

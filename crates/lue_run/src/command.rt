@@ -1,7 +1,8 @@
 ghost use Rattle.std.specs.Prelude.{◌≡◌};
 ghost use Rattle.std.specs.List.{list_all};
 ghost use Rattle.std.specs.Option.{option_copied};
-ghost use Rattle.lue_run.specs.Words.{is_file_byte, is_file_word, is_word_byte, script_named};
+ghost use Rattle.script_syntax.specs.Tokens.{is_file_byte, is_word_byte};
+ghost use Rattle.lue_run.specs.Words.{is_file_word, script_named};
 
 use cell_values::Word;
 
