@@ -1,10 +1,23 @@
 -- The sum of two maps.
-use Rattle.std.specs.Prelude.{◌≡◌, List, ℕ, [], ◌∷◌, ◌+◌, ◌<◌, Ok, Err, Result, ⊤}
+use Rattle.std.specs.Prelude.{◌≡◌, List, ℕ, [], ◌∷◌, ◌+◌, ◌++◌, ◌<◌, length, map, Ok, Err, Result, ⊤}
+use Rattle.std.specs.List.{zip}
 use Rattle.cell_values.specs.declared.cell.Cell.{Cell}
 use Rattle.cell_values.specs.declared.cell.Over as no_cell
 use Rattle.lue_run.specs.declared.map_sum.SumEnd.{SumEnd}
 use Rattle.lue_run.specs.declared.map_sum.SumEnd.TheVariants.{Over, Memory}
 use Rattle.cell_values.specs.Arithmetic.{sum_of}
+
+-- the sums of two maps at all places, each of them a cell or Over
+abbrev pub sums_at : List Cell → List Cell → List (Result Cell no_cell.Over)
+sums_at first second = map (λ pair. sum_of pair.0 pair.1) (zip first second)
+
+-- the first of these that is Over stands at this place, counted from 0 in row-major order
+pub record IsFirstOver (sums : List (Result Cell no_cell.Over)) (place : ℕ) : Type 0 where
+  pub before : List Cell
+  pub after : List (Result Cell no_cell.Over)
+  pub over : no_cell.Over
+  pub parts : sums ≡ map Ok before ++ Err over ∷ after
+  pub at : length before ≡ place
 
 -- a cell in front of the cells behind it, or the first place, counted from `place`, that is Over
 abbrev pub with_cell : ℕ → Result Cell no_cell.Over → Result (List Cell) ℕ → Result (List Cell) ℕ

@@ -14,4 +14,5 @@ mod top;
 
 pub use ended::{Ended, InputKind, OverAt};
 pub use line::status;
+pub use map_sum::sums_are_those_of_cells;
 pub use top::lue_plain;

@@ -1,5 +1,6 @@
-ghost use Rattle.std.specs.Prelude.{◌≡◌, length, MatchResult};
-ghost use Rattle.lue_run.specs.MapSum.{IsWithin, SumRefused, sums_from};
+ghost use Rattle.std.specs.Prelude.{◌≡◌, ℕ, List, length, map, MatchResult, Ok, Err};
+ghost use Rattle.cell_values.specs.declared.cell.Cell.{Cell};
+ghost use Rattle.lue_run.specs.MapSum.{IsFirstOver, IsWithin, SumRefused, sums_at, sums_from};
 
 use cell_values::{Cell, Cells, add};
 use std::alloc::{AllocError, AllocFailed, Global};
@@ -49,3 +50,10 @@ pub fn sum_maps(alloc: Global, first: &[Cell], second: &[Cell]) -> Result<Cells,
     }
     Ok(Cells::from_vec(sums))
 }
+
+/// The sum of two maps has at each place the sum of their cells there, and where there is none, the place that is told is
+/// the first whose sum is out of range.
+pub fn sums_are_those_of_cells()
+    ensures sum { (first second cells : List Cell) → sums_from 0 first second ≡ Ok cells → sums_at first second ≡ map Ok cells }
+    ensures over { (first second : List Cell) (place : ℕ) → sums_from 0 first second ≡ Err place → IsFirstOver (sums_at first second) place }
+{}
