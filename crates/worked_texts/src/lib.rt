@@ -1,0 +1,20 @@
+//! Tests of the values, the texts and the world outside, as tables whose expected values come from the written rules,
+//! from worked examples and from the texts of other programs. The crate has tests alone.
+#![tactic(auto)]
+
+#[cfg(test)]
+mod arithmetic;
+#[cfg(test)]
+mod convert;
+#[cfg(test)]
+mod grids;
+#[cfg(test)]
+mod outside;
+#[cfg(test)]
+mod print;
+#[cfg(test)]
+mod rounding;
+#[cfg(test)]
+mod scripts;
+#[cfg(test)]
+mod values;
