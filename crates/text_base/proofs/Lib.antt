@@ -1,0 +1,7 @@
+pub mod Callers
+pub mod Members
+pub mod TokenLaws
+pub mod TokensUnique
+pub mod LineLaws
+pub mod LinesUnique
+pub mod DigitLaws

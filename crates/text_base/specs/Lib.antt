@@ -1,0 +1,9 @@
+pub mod Bytes
+pub mod Words
+pub mod Tokens
+pub mod Lines
+pub mod Numbers
+pub mod Options
+pub mod Results
+pub mod Limits
+pub mod inside
