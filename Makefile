@@ -1,26 +1,51 @@
-# Builds, shows and checks Dusterindigo. `rt` is Rattle's command; nothing else is needed.
+# Builds, shows, checks and installs Dusterindigo. `rt` is Rattle's command; nothing else is needed.
 
-PROGRAM := crates/dusterindigo/out/dusterindigo
+name    := dusterindigo
+PROGRAM := crates/$(name)/out/$(name)
 PREFIX  ?= /usr/local
 
-.PHONY: build demo test install
+# How many crates are proved side by side: one for each processor, and for each 4 GB of memory that are free.
+JOBS ?= $(shell awk -v cpus="$$(nproc)" '/^MemAvailable/ {jobs = int($$2 / 4000000); if (jobs > cpus) jobs = cpus; print jobs < 1 ? 1 : jobs}' /proc/meminfo)
 
-# Proves the crates and links the program. (`rt run` runs it once, without words, which prints `usage`.)
-build:
-	@rm -f $(PROGRAM)
-	@cd crates/dusterindigo && { rt run >out.log 2>&1 || true; }
-	@test -x $(PROGRAM) || { cat crates/dusterindigo/out.log; exit 1; }
-	@rm -f crates/dusterindigo/out.log
+# The libraries below the program, lowest first; those that one crate names; and the files that all of them are made of.
+libraries := $(shell scripts/below $(name))
+named_by   = $(filter $(libraries),$(shell sed -n 's/^$(1)[^:]*: *//p' crates.txt))
+sources   := crates.txt $(shell find $(libraries:%=crates/%) crates/$(name) -name out -prune -o \( -name '*.rt' -o -name '*.antt' \) -print)
+
+.PHONY: build demo test install $(libraries:%=proved-%)
+
+build: $(PROGRAM)
+
+# Proves the libraries, side by side where they do not stand on each other, and then the program, and links it. What
+# has not changed is not proved again. (`rt run` runs it once, without words, which prints `usage`.)
+$(PROGRAM): $(sources)
+	@echo "proving the program and the $(words $(libraries)) libraries below it, $(JOBS) side by side; the first time takes minutes"
+	@$(MAKE) --no-print-directory -j$(JOBS) $(libraries:%=proved-%)
+	@mkdir -p $(@D) && rm -f $@ && cd crates/$(name) && { rt run >out/run.log 2>&1 || true; }
+	@test -x $@ || { cat $(@D)/run.log; exit 1; }
+	@echo "linked $@"
+
+# A library, once those that it names are proved. One line says what was proved, and how long it took.
+.SECONDEXPANSION:
+$(libraries:%=proved-%): proved-%: $$(addprefix proved-,$$(call named_by,$$*))
+	@mkdir -p crates/$*/out; cd crates/$*; start=$$(date +%s); \
+	rt lib >out/lib.log 2>&1 || { cat out/lib.log; exit 1; }; \
+	if [ -s out/lib.log ]; then echo "proved $* in $$(($$(date +%s) - start)) s"; fi
 
 # Runs the first example and shows what it writes.
-demo: build
+demo: $(PROGRAM)
 	@scripts/demo $(PROGRAM) examples/first-sum
 
-# The gate: every proof, must-fail edit, test and program, and then the examples and messages of the built program.
+# The gate: every proof, must-fail edit, test and program, and then the project's own checks, of its definitions and of
+# the built program.
 test:
 	rt ci
-	@test -x $(PROGRAM) || $(MAKE) --no-print-directory build
+	@$(MAKE) --no-print-directory $(PROGRAM)
+	@scripts/check-names
+	@scripts/believed --check
 	@scripts/check-program $(PROGRAM)
 
-install: build
-	install -D -m 755 $(PROGRAM) $(DESTDIR)$(PREFIX)/bin/dusterindigo
+# Installs what was built, and builds nothing, so that root proves nothing.
+install:
+	@$(MAKE) --no-print-directory -q $(PROGRAM) || { echo 'the program is not there or older than its sources: run make build first' >&2; exit 1; }
+	install -D -m 755 $(PROGRAM) $(DESTDIR)$(PREFIX)/bin/$(name)
