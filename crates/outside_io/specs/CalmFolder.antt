@@ -11,13 +11,13 @@ abbrev pub pairs : List Held → List PutPair
 pairs held = map (λ h. (h.name.items, h.bytes.items)) held
 
 -- the files: of two writes of one name the newer counts, which stands in front
-abbrev pub files_of : List Held → Files
-files_of held = from_entries (pairs held)
+abbrev pub held_files : List Held → Files
+held_files held = from_entries (pairs held)
 
 -- It tells all, and has no faults.
-abbrev pub calm_state : CalmFolder → FolderState
-calm_state folder = record {
-  holds = Some (files_of folder.files.items);
+abbrev pub calm_folder_state : CalmFolder → FolderState
+calm_folder_state folder = record {
+  holds = Some (held_files folder.files.items);
   puts = Some (pairs folder.puts.items);
   read_faults = 0;
   put_faults = 0;

@@ -4,8 +4,8 @@ use Rattle.outside_io.specs.State.{FolderState}
 use Rattle.outside_io.specs.declared.file_folder.FileFolder.{FileFolder}
 
 -- It tells its counts and no contents.
-abbrev pub file_state : {R : Type 0} → FileFolder R → FolderState
-file_state folder = record {
+abbrev pub file_folder_state : {R : Type 0} → FileFolder R → FolderState
+file_folder_state folder = record {
   holds = None;
   puts = None;
   read_faults = folder.read_faults;

@@ -1,7 +1,10 @@
 pub mod State
-pub mod Ends
-pub mod Course
+pub mod Refusals
 pub mod Counts
+pub mod Events
+pub mod Runs
+pub mod Causes
+pub mod Met
 pub mod FailingCalls
 pub mod CalmFolder
 pub mod MemFolder
@@ -9,3 +12,4 @@ pub mod CalmSink
 pub mod MemSink
 pub mod FileFolder
 pub mod StdSink
+pub mod inside

@@ -1,13 +1,14 @@
 -- What a folder in memory that fails on demand tells.
-use Rattle.std.specs.Prelude.{ℕ, List, Bool}
+use Rattle.std.specs.Prelude.{ℕ, List}
 use Rattle.outside_io.specs.State.{PutPair, FolderState}
-use Rattle.outside_io.specs.CalmFolder.{pairs, calm_state}
-use Rattle.outside_io.specs.FailingCalls as calls
+use Rattle.outside_io.specs.Counts.{raised}
+use Rattle.outside_io.specs.CalmFolder.{pairs, calm_folder_state}
+use Rattle.outside_io.specs.declared.failing_calls.FailingCalls.{FailingCalls}
 use Rattle.outside_io.specs.declared.mem_folder.MemFolder.{MemFolder}
 
--- the same folder with these counts of faults
-abbrev pub with_faults : FolderState → ℕ → ℕ → FolderState
-with_faults s read_faults put_faults = record {
+-- the same folder, but that its counts of faults are these
+abbrev pub counting_faults : FolderState → ℕ → ℕ → FolderState
+counting_faults s read_faults put_faults = record {
   holds = s.holds;
   puts = s.puts;
   read_faults = read_faults;
@@ -17,25 +18,21 @@ with_faults s read_faults put_faults = record {
 }
 
 -- It tells all that a folder that never fails tells, and its own faults.
-abbrev pub mem_state : MemFolder → FolderState
-mem_state folder = with_faults (calm_state folder.calm) folder.read_faults folder.put_faults
+abbrev pub mem_folder_state : MemFolder → FolderState
+mem_folder_state folder = counting_faults (calm_folder_state folder.calm) folder.read_faults folder.put_faults
 
 -- the puts that succeeded
 abbrev pub mem_puts : MemFolder → List PutPair
 mem_puts folder = pairs folder.calm.puts.items
 
--- how many reads and puts were made
-abbrev pub calls_made : MemFolder → ℕ
-calls_made folder = calls.made folder.failing
+-- its reads and puts, and which of them are to fail
+abbrev pub folder_calls : MemFolder → FailingCalls
+folder_calls folder = folder.failing
 
--- the numbers of the calls that are to fail
-abbrev pub failing_numbers : MemFolder → List ℕ
-failing_numbers folder = calls.numbers folder.failing
+-- A read that is to fail does nothing but raise the count of such faults.
+abbrev pub after_failed_read : FolderState → FolderState
+after_failed_read s = counting_faults s (raised s.read_faults) s.put_faults
 
--- the next read or put is to fail
-abbrev pub is_next_failing : MemFolder → Bool
-is_next_failing folder = calls.is_next_failing folder.failing
-
--- a read or a put was made, and the same calls are to fail
-abbrev pub CallMade : MemFolder → MemFolder → Type 0
-CallMade old new = calls.CallMade old.failing new.failing
+-- A put that is to fail does nothing but raise the count of such faults.
+abbrev pub after_failed_put : FolderState → FolderState
+after_failed_put s = counting_faults s s.read_faults (raised s.put_faults)

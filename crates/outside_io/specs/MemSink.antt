@@ -1,7 +1,7 @@
 -- What a sink in memory tells.
-use Rattle.std.specs.Prelude.{◌≡◌, ◌↔◌, ℕ, ◌-◌, ◌≤◌, List, ◌++◌, take, length, Some, Result, IsOk, IsErr, Bool}
+use Rattle.std.specs.Prelude.{◌≡◌, ◌↔◌, ℕ, ◌-◌, ◌≤◌, List, ◌++◌, take, length, Some, Result, IsOk, IsErr}
 use Rattle.outside_io.specs.State.{SinkState}
-use Rattle.outside_io.specs.FailingCalls as calls
+use Rattle.outside_io.specs.declared.failing_calls.FailingCalls.{FailingCalls}
 use Rattle.outside_io.specs.declared.mem_sink.MemSink.{MemSink}
 use Rattle.outside_io.specs.declared.sink.SinkFailed.{SinkFailed}
 
@@ -10,28 +10,20 @@ abbrev pub mem_written : MemSink → List ℕ
 mem_written sink = take sink.len sink.room
 
 -- It tells all.
-abbrev pub sink_state : MemSink → SinkState
-sink_state sink = record { written = Some (mem_written sink); faults = sink.faults }
+abbrev pub mem_sink_state : MemSink → SinkState
+mem_sink_state sink = record { written = Some (mem_written sink); faults = sink.faults }
+
+-- how many bytes it has room for
+abbrev pub most_written : ℕ
+most_written = 4096
 
 -- how many more bytes it has room for
 abbrev pub room_left : MemSink → ℕ
-room_left sink = 4096 - length (mem_written sink)
+room_left sink = most_written - length (mem_written sink)
 
--- how many writes were made
-abbrev pub calls_made : MemSink → ℕ
-calls_made sink = calls.made sink.failing
-
--- the numbers of the writes that are to fail
-abbrev pub failing_numbers : MemSink → List ℕ
-failing_numbers sink = calls.numbers sink.failing
-
--- the next write is to fail
-abbrev pub is_next_failing : MemSink → Bool
-is_next_failing sink = calls.is_next_failing sink.failing
-
--- a write was made, and the same writes are to fail
-abbrev pub CallMade : MemSink → MemSink → Type 0
-CallMade old new = calls.CallMade old.failing new.failing
+-- its writes, and which of them are to fail
+abbrev pub sink_calls : MemSink → FailingCalls
+sink_calls sink = sink.failing
 
 -- A write that is to fail writes nothing.
 pub record IsRefused (old new : MemSink) (result : Result (Unit {0}) SinkFailed) : Type 0 where

@@ -2,9 +2,9 @@ ghost use Rattle.std.specs.Prelude.{◌≡◌, List, ℕ, IfOk, OnOk, OnErr, IsE
 ghost use Rattle.std.specs.Option.{option_map};
 ghost use Rattle.std.specs.FinMap.{get};
 ghost use Rattle.outside_io.specs.State.{IsFound, ReadKeeps, IsPut, PutKeeps};
-ghost use Rattle.outside_io.specs.Ends.{ReadRefused, PutRefused};
+ghost use Rattle.outside_io.specs.Refusals.{ReadRefused, PutRefused};
 ghost use Rattle.outside_io.specs.Counts.{counts_of, after_read, after_put};
-ghost use Rattle.outside_io.specs.CalmFolder.{files_of, calm_state, untouched, holding};
+ghost use Rattle.outside_io.specs.CalmFolder.{held_files, calm_folder_state, untouched, holding};
 
 use crate::{Folder, PutEnd, ReadEnd};
 use std::alloc::{AllocError, Global};
@@ -44,7 +44,7 @@ impl Held {
 
 // The bytes of the newest write of that name.
 fn find_bytes<'a>(files: &'a VecDeque<Held>, name: &[u8]) -> Option<&'a [u8]>
-    ensures { option_map (λ bytes. bytes.now) result ≡ get (files_of files.now.items) name.now }
+    ensures { option_map (λ bytes. bytes.now) result ≡ get (held_files files.now.items) name.now }
 {
     for held in files {
         if name == held.name.as_slice() {
@@ -69,7 +69,7 @@ pub struct CalmFolder {
 impl CalmFolder {
     /// A folder without files.
     pub fn new(alloc: Global) -> CalmFolder
-        ensures { calm_state result ≡ untouched }
+        ensures { calm_folder_state result ≡ untouched }
     {
         CalmFolder {
             files: VecDeque::new(alloc),
@@ -81,8 +81,8 @@ impl CalmFolder {
 
     /// Sets the bytes of a file, which is no put. Where there is no memory the folder is as before.
     pub fn hold(&mut self, alloc: Global, name: &[u8], bytes: &[u8]) -> Result<(), AllocError>
-        ensures ok { OnOk result (calm_state self.new ≡ holding (calm_state self.old) name.now bytes.now) }
-        ensures err { OnErr result (calm_state self.new ≡ calm_state self.old) }
+        ensures ok { OnOk result (calm_folder_state self.new ≡ holding (calm_folder_state self.old) name.now bytes.now) }
+        ensures err { OnErr result (calm_folder_state self.new ≡ calm_folder_state self.old) }
     {
         self.files.push_front(Held::new(alloc, name, bytes)?)?;
         Ok(())
@@ -97,14 +97,14 @@ impl CalmFolder {
 }
 
 impl Folder for CalmFolder {
-    ghost state = { calm_state };
+    ghost state = { calm_folder_state };
 
     fn read(&mut self, alloc: Global, name: &[u8], limit: u64) -> Result<Vec<u8>, ReadEnd>
         ensures answer { MatchResult result
-            (λ bytes. IsFound (calm_state self.old) name.now limit bytes.items)
-            (ReadRefused (calm_state self.old) (calm_state self.new) name.now limit) }
-        ensures keeps { ReadKeeps (calm_state self.old) (calm_state self.new) }
-        ensures counts { counts_of (calm_state self.new) ≡ after_read (counts_of (calm_state self.old)) result }
+            (λ bytes. IsFound (calm_folder_state self.old) name.now limit bytes.items)
+            (ReadRefused (calm_folder_state self.old) (calm_folder_state self.new) name.now limit) }
+        ensures keeps { ReadKeeps (calm_folder_state self.old) (calm_folder_state self.new) }
+        ensures counts { counts_of (calm_folder_state self.new) ≡ after_read (counts_of (calm_folder_state self.old)) result }
         ensures never_fails { IsErrOf result ReadEnd.Failed → ⊥ }
     {
         let Some(bytes) = find_bytes(&self.files, name) else {
@@ -120,10 +120,10 @@ impl Folder for CalmFolder {
 
     fn put(&mut self, alloc: Global, name: &[u8], bytes: &[u8]) -> Result<(), PutEnd>
         ensures answer { MatchResult result
-            (λ _. IsPut (calm_state self.old) (calm_state self.new) name.now bytes.now)
-            (PutRefused (calm_state self.old) (calm_state self.new) name.now) }
-        ensures keeps { PutKeeps (calm_state self.old) (calm_state self.new) }
-        ensures counts { counts_of (calm_state self.new) ≡ after_put (counts_of (calm_state self.old)) result }
+            (λ _. IsPut (calm_folder_state self.old) (calm_folder_state self.new) name.now bytes.now)
+            (PutRefused (calm_folder_state self.old) (calm_folder_state self.new) name.now) }
+        ensures keeps { PutKeeps (calm_folder_state self.old) (calm_folder_state self.new) }
+        ensures counts { counts_of (calm_folder_state self.new) ≡ after_put (counts_of (calm_folder_state self.old)) result }
         ensures never_fails { IsErrOf result PutEnd.Failed → ⊥ }
     {
         let file = Held::new(alloc, name, bytes)?;

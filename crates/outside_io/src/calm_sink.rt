@@ -1,6 +1,6 @@
 ghost use Rattle.std.specs.Prelude.{◌≡◌, ◌≤◌, length, IsOk, MatchResult};
 ghost use Rattle.outside_io.specs.State.{Rose, Wrote, WroteFront};
-ghost use Rattle.outside_io.specs.CalmSink.{calm_state, byte_count, counted};
+ghost use Rattle.outside_io.specs.CalmSink.{calm_sink_state, byte_count, count_after};
 
 use crate::{Sink, SinkFailed};
 
@@ -27,16 +27,16 @@ impl CalmSink {
 }
 
 impl Sink for CalmSink {
-    ghost state = { calm_state };
+    ghost state = { calm_sink_state };
 
     fn write_all(&mut self, bytes: &[u8]) -> Result<(), SinkFailed>
         ensures answer { MatchResult result
-            (λ _. Wrote (calm_state self.old) (calm_state self.new) bytes.now)
-            (λ _. Rose (calm_state self.old).faults (calm_state self.new).faults
-            × WroteFront (calm_state self.old) (calm_state self.new) bytes.now) }
-        ensures later { (calm_state self.old).faults ≤ (calm_state self.new).faults }
+            (λ _. Wrote (calm_sink_state self.old) (calm_sink_state self.new) bytes.now)
+            (λ _. Rose (calm_sink_state self.old).faults (calm_sink_state self.new).faults
+            × WroteFront (calm_sink_state self.old) (calm_sink_state self.new) bytes.now) }
+        ensures later { (calm_sink_state self.old).faults ≤ (calm_sink_state self.new).faults }
         ensures never_fails { IsOk result }
-        ensures count { byte_count self.new ≡ counted (byte_count self.old) (length bytes.now) }
+        ensures count { byte_count self.new ≡ count_after (byte_count self.old) (length bytes.now) }
     {
         self.count = self.count.saturating_add(bytes.len() as u64);
         Ok(())

@@ -1,5 +1,5 @@
 ghost use Rattle.std.specs.Prelude.{◌≡◌, []};
-ghost use Rattle.outside_io.specs.FailingCalls.{made, numbers, is_next_failing, CallMade};
+ghost use Rattle.outside_io.specs.FailingCalls.{calls_made, failing_numbers, is_next_failing, CallMade};
 
 // The numbers of the calls that are to fail, and how many calls were made.
 #[derive(Drop)]
@@ -11,8 +11,8 @@ pub struct FailingCalls {
 impl FailingCalls {
     // No call was made, and none is to fail.
     pub fn new() -> FailingCalls
-        ensures made { made result ≡ 0 }
-        ensures numbers { numbers result ≡ [] }
+        ensures made { calls_made result ≡ 0 }
+        ensures numbers { failing_numbers result ≡ [] }
     {
         FailingCalls {
             made: 0,
@@ -22,8 +22,8 @@ impl FailingCalls {
 
     // These calls are to fail, and no others.
     pub fn set(&mut self, calls: Vec<u64>)
-        ensures made { made self.new ≡ made self.old }
-        ensures numbers { numbers self.new ≡ calls.items }
+        ensures made { calls_made self.new ≡ calls_made self.old }
+        ensures numbers { failing_numbers self.new ≡ calls.items }
     {
         self.numbers = Some(calls);
     }

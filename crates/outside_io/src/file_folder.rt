@@ -1,15 +1,20 @@
-ghost use Rattle.std.specs.Prelude.{◌≡◌, ◌⊎◌, ◌↔◌, ◌<◌, ◌≤◌, length, IfOk, IfSome, IsErrOf, MatchResult};
+ghost use Rattle.std.specs.Prelude.{◌≡◌, ◌⊎◌, ◌↔◌, ◌+◌, ◌<◌, ◌≤◌, length, take, IfErr, IfOk, IfSome, Ok, IsErrOf, MatchResult};
 ghost use Rattle.std.specs.IoError.{error_kind};
+ghost use Rattle.std.specs.Io.KnownBytes.{Consumes, IsAtEnd, Keeps};
 ghost use Rattle.outside_io.specs.State.{IsFound, ReadKeeps, IsPut, PutKeeps};
-ghost use Rattle.outside_io.specs.Ends.{ReadRefused, PutRefused};
+ghost use Rattle.outside_io.specs.Refusals.{ReadRefused, PutRefused};
 ghost use Rattle.outside_io.specs.Counts.{counts_of, after_read, after_put};
-ghost use Rattle.outside_io.specs.FileFolder.{file_state, nothing_happened};
+ghost use Rattle.outside_io.specs.FileFolder.{file_folder_state, nothing_happened};
+ghost use Rattle.outside_io.specs.inside.Reading.{TakesAtMost};
 
 use crate::{Folder, PutEnd, ReadEnd};
-use std::alloc::Global;
+use std::alloc::{AllocError, Global};
 use std::io::{ErrorKind, Read};
 use std::rt::Files;
 use std::{fs, io};
+
+/// How many bytes of a file are read at a time.
+const CHUNK: usize = 65_536;
 
 /// The current folder of the system. It tells its counts and no contents.
 ///
@@ -27,7 +32,7 @@ pub struct FileFolder<R: Drop> {
 impl<R: Files + Drop> FileFolder<R> {
     /// The current folder.
     pub fn here(rt: R) -> FileFolder<R>
-        ensures { file_state result ≡ nothing_happened }
+        ensures { file_folder_state result ≡ nothing_happened }
     {
         FileFolder {
             rt,
@@ -40,14 +45,14 @@ impl<R: Files + Drop> FileFolder<R> {
 }
 
 impl<R: Files + Drop> Folder for FileFolder<R> {
-    ghost state = { file_state };
+    ghost state = { file_folder_state };
 
     fn read(&mut self, alloc: Global, name: &[u8], limit: u64) -> Result<Vec<u8>, ReadEnd>
         ensures answer { MatchResult result
-            (λ bytes. IsFound (file_state self.old) name.now limit bytes.items)
-            (ReadRefused (file_state self.old) (file_state self.new) name.now limit) }
-        ensures keeps { ReadKeeps (file_state self.old) (file_state self.new) }
-        ensures counts { counts_of (file_state self.new) ≡ after_read (counts_of (file_state self.old)) result }
+            (λ bytes. IsFound (file_folder_state self.old) name.now limit bytes.items)
+            (ReadRefused (file_folder_state self.old) (file_folder_state self.new) name.now limit) }
+        ensures keeps { ReadKeeps (file_folder_state self.old) (file_folder_state self.new) }
+        ensures counts { counts_of (file_folder_state self.new) ≡ after_read (counts_of (file_folder_state self.old)) result }
     {
         match read_file(&self.rt, alloc, name, limit) {
             Ok(bytes) => Ok(bytes),
@@ -69,10 +74,10 @@ impl<R: Files + Drop> Folder for FileFolder<R> {
 
     fn put(&mut self, _alloc: Global, name: &[u8], bytes: &[u8]) -> Result<(), PutEnd>
         ensures answer { MatchResult result
-            (λ _. IsPut (file_state self.old) (file_state self.new) name.now bytes.now)
-            (PutRefused (file_state self.old) (file_state self.new) name.now) }
-        ensures keeps { PutKeeps (file_state self.old) (file_state self.new) }
-        ensures counts { counts_of (file_state self.new) ≡ after_put (counts_of (file_state self.old)) result }
+            (λ _. IsPut (file_folder_state self.old) (file_folder_state self.new) name.now bytes.now)
+            (PutRefused (file_folder_state self.old) (file_folder_state self.new) name.now) }
+        ensures keeps { PutKeeps (file_folder_state self.old) (file_folder_state self.new) }
+        ensures counts { counts_of (file_folder_state self.new) ≡ after_put (counts_of (file_folder_state self.old)) result }
     {
         match put_file(&self.rt, name, bytes) {
             Ok(()) => Ok(()),
@@ -144,33 +149,59 @@ fn read_file<R: Files>(rt: &R, alloc: Global, name: &[u8], limit: u64) -> Result
         return Err(ReadEnd::TooLong);
     }
     match fs::open(rt, path) {
-        Ok(file) => read_all(alloc, file, size, limit),
+        Ok(mut file) => read_all(alloc, &mut file, size, limit),
         Err(error) => Err(look_end(&error)),
     }
 }
 
-// All bytes that a file has left, at most `limit` of them. There is room for `size` of them from the start, and for
-// one more, which the read that meets the end asks for. A reader that tells its bytes shows that none is lost.
-fn read_all<F: Read + Drop>(
-    alloc: Global,
-    file: F,
-    size: u64,
-    limit: u64,
-) -> Result<Vec<u8>, ReadEnd>
-    ensures short { IfOk result (λ bytes. length bytes.items ≤ limit) }
-    ensures whole { IfSome (F.remaining file) (λ rest. IfOk result (λ bytes. bytes.items ≡ rest)) }
-    ensures long { IfSome (F.remaining file) (λ rest. IsErrOf result ReadEnd.TooLong → limit < length rest) }
-    ensures there { IsErrOf result ReadEnd.Absent → ⊥ }
+// So many bytes, to be read into.
+fn room_for(alloc: Global, count: usize) -> Result<Vec<u8>, AllocError>
+    ensures { IfOk result (λ room. length room.items ≡ count) }
 {
-    let room = size.saturating_add(1) as usize;
-    let mut bytes = Vec::with_capacity(alloc, room)?;
-    if let Err(error) = file.take(limit.saturating_add(1)).read_to_end(&mut bytes) {
-        return Err(read_end(&error));
+    vec![in alloc; 0; count]
+}
+
+// Reads what comes next into the front of the room, at most so many bytes, and tells how many came. None come only at
+// the end.
+fn read_front<F: Read>(file: &mut F, room: &mut [u8], most: u64) -> Result<usize, ReadEnd>
+    requires most { 0 < most }
+    requires room { 0 < length room.old }
+    ensures count { IfOk result (λ count. (count ≤ length room.new) × (count ≤ most)) }
+    ensures bytes { MatchResult result
+        (λ count. Consumes (F.remaining file.old) (F.remaining file.new) (take count room.new))
+        (λ _. Keeps (F.remaining file.old) (F.remaining file.new)) }
+    ensures end { result ≡ Ok 0 → IsAtEnd (F.remaining file.new) }
+    ensures err { IfErr result (λ end. (end ≡ ReadEnd.Memory) ⊎ (end ≡ ReadEnd.Failed)) }
+{
+    let want = most.min(room.len() as u64) as usize;
+    match file.read(&mut room[..want]) {
+        Ok(count) => Ok(count),
+        Err(error) => Err(read_end(&error)),
     }
-    if bytes.len() as u64 > limit {
-        return Err(ReadEnd::TooLong);
+}
+
+// All bytes that a file has left, at most `limit` of them. There is room for `size` of them from the start, and a read
+// that fails is not tried again. Whatever comes, at most one byte beyond the limit is taken from the reader. One that
+// tells its bytes shows that none is lost.
+fn read_all<F: Read>(alloc: Global, file: &mut F, size: u64, limit: u64) -> Result<Vec<u8>, ReadEnd>
+    ensures short { IfOk result (λ bytes. length bytes.items ≤ limit) }
+    ensures whole { IfSome (F.remaining file.old) (λ rest. IfOk result (λ bytes. bytes.items ≡ rest)) }
+    ensures long { IfSome (F.remaining file.old) (λ rest. IsErrOf result ReadEnd.TooLong → limit < length rest) }
+    ensures there { IsErrOf result ReadEnd.Absent → ⊥ }
+    ensures taken { TakesAtMost (F.remaining file.old) (F.remaining file.new) (limit + 1) }
+{
+    let most = limit.saturating_add(1);
+    let mut room = room_for(alloc, CHUNK)?;
+    let mut bytes = Vec::with_capacity(alloc, size.min(most) as usize)?;
+    while (bytes.len() as u64) < most {
+        let left = most - bytes.len() as u64;
+        let count = read_front(file, &mut room, left)?;
+        if count == 0 {
+            return Ok(bytes);
+        }
+        bytes.extend_from_slice(&room[..count])?;
     }
-    Ok(bytes)
+    Err(ReadEnd::TooLong)
 }
 
 // Sets the bytes of a file. What is no ordinary file is left alone.

@@ -1,6 +1,6 @@
 ghost use Rattle.std.specs.Prelude.{◌≡◌, MatchResult};
 ghost use Rattle.outside_io.specs.State.{FolderState, IsFound, ReadKeeps, IsPut, PutKeeps};
-ghost use Rattle.outside_io.specs.Ends.{ReadRefused, PutRefused};
+ghost use Rattle.outside_io.specs.Refusals.{ReadRefused, PutRefused};
 ghost use Rattle.outside_io.specs.declared.folder.ReadEnd.TheVariants as reads;
 ghost use Rattle.outside_io.specs.declared.folder.PutEnd.TheVariants as puts;
 

@@ -15,8 +15,6 @@ mod mem_folder;
 mod mem_sink;
 mod sink;
 mod std_sink;
-#[cfg(test)]
-mod tests;
 
 pub use calm_folder::CalmFolder;
 pub use calm_sink::CalmSink;

@@ -1,9 +1,10 @@
 ghost use Rattle.std.specs.Prelude.{◌≡◌, ◌<◌, ◌↔◌, [], length, slice_get, IsSomeAnd, IsTrue, OnOk, OnErr, IsErrOf, MatchResult};
 ghost use Rattle.outside_io.specs.State.{IsFound, ReadKeeps, IsPut, PutKeeps};
-ghost use Rattle.outside_io.specs.Ends.{ReadRefused, PutRefused};
+ghost use Rattle.outside_io.specs.Refusals.{ReadRefused, PutRefused};
 ghost use Rattle.outside_io.specs.Counts.{counts_of, after_read, after_put};
 ghost use Rattle.outside_io.specs.CalmFolder.{untouched, holding};
-ghost use Rattle.outside_io.specs.MemFolder.{mem_state, mem_puts, calls_made, failing_numbers, is_next_failing, CallMade};
+ghost use Rattle.outside_io.specs.MemFolder.{mem_folder_state, mem_puts, folder_calls, after_failed_read, after_failed_put};
+ghost use Rattle.outside_io.specs.FailingCalls.{calls_made, failing_numbers, is_next_failing, CallMade};
 
 use crate::failing_calls::FailingCalls;
 use crate::{CalmFolder, Folder, PutEnd, ReadEnd};
@@ -23,9 +24,9 @@ pub struct MemFolder {
 impl MemFolder {
     /// A folder without files, none of whose calls is to fail.
     pub fn new(alloc: Global) -> MemFolder
-        ensures state { mem_state result ≡ untouched }
-        ensures made { calls_made result ≡ 0 }
-        ensures numbers { failing_numbers result ≡ [] }
+        ensures state { mem_folder_state result ≡ untouched }
+        ensures made { calls_made (folder_calls result) ≡ 0 }
+        ensures numbers { failing_numbers (folder_calls result) ≡ [] }
     {
         MemFolder {
             calm: CalmFolder::new(alloc),
@@ -37,10 +38,10 @@ impl MemFolder {
 
     /// Sets the bytes of a file, which is no put and no call. Where there is no memory the folder is as before.
     pub fn hold(&mut self, alloc: Global, name: &[u8], bytes: &[u8]) -> Result<(), AllocError>
-        ensures ok { OnOk result (mem_state self.new ≡ holding (mem_state self.old) name.now bytes.now) }
-        ensures err { OnErr result (mem_state self.new ≡ mem_state self.old) }
-        ensures made { calls_made self.new ≡ calls_made self.old }
-        ensures numbers { failing_numbers self.new ≡ failing_numbers self.old }
+        ensures ok { OnOk result (mem_folder_state self.new ≡ holding (mem_folder_state self.old) name.now bytes.now) }
+        ensures err { OnErr result (mem_folder_state self.new ≡ mem_folder_state self.old) }
+        ensures made { calls_made (folder_calls self.new) ≡ calls_made (folder_calls self.old) }
+        ensures numbers { failing_numbers (folder_calls self.new) ≡ failing_numbers (folder_calls self.old) }
     {
         self.calm.hold(alloc, name, bytes)
     }
@@ -48,9 +49,9 @@ impl MemFolder {
     /// From now on these calls are to fail, and no others. Calls are counted from 1 over reads and puts together, from
     /// the making of the folder on.
     pub fn fail_on(&mut self, calls: Vec<u64>)
-        ensures state { mem_state self.new ≡ mem_state self.old }
-        ensures made { calls_made self.new ≡ calls_made self.old }
-        ensures numbers { failing_numbers self.new ≡ calls.items }
+        ensures state { mem_folder_state self.new ≡ mem_folder_state self.old }
+        ensures made { calls_made (folder_calls self.new) ≡ calls_made (folder_calls self.old) }
+        ensures numbers { failing_numbers (folder_calls self.new) ≡ calls.items }
     {
         self.failing.set(calls);
     }
@@ -80,16 +81,17 @@ impl MemFolder {
 }
 
 impl Folder for MemFolder {
-    ghost state = { mem_state };
+    ghost state = { mem_folder_state };
 
     fn read(&mut self, alloc: Global, name: &[u8], limit: u64) -> Result<Vec<u8>, ReadEnd>
         ensures answer { MatchResult result
-            (λ bytes. IsFound (mem_state self.old) name.now limit bytes.items)
-            (ReadRefused (mem_state self.old) (mem_state self.new) name.now limit) }
-        ensures keeps { ReadKeeps (mem_state self.old) (mem_state self.new) }
-        ensures counts { counts_of (mem_state self.new) ≡ after_read (counts_of (mem_state self.old)) result }
-        ensures fails { IsErrOf result ReadEnd.Failed ↔ IsTrue (is_next_failing self.old) }
-        ensures counted { CallMade self.old self.new }
+            (λ bytes. IsFound (mem_folder_state self.old) name.now limit bytes.items)
+            (ReadRefused (mem_folder_state self.old) (mem_folder_state self.new) name.now limit) }
+        ensures keeps { ReadKeeps (mem_folder_state self.old) (mem_folder_state self.new) }
+        ensures counts { counts_of (mem_folder_state self.new) ≡ after_read (counts_of (mem_folder_state self.old)) result }
+        ensures fails { IsErrOf result ReadEnd.Failed ↔ IsTrue (is_next_failing (folder_calls self.old)) }
+        ensures failed { IsErrOf result ReadEnd.Failed → mem_folder_state self.new ≡ after_failed_read (mem_folder_state self.old) }
+        ensures counted { CallMade (folder_calls self.old) (folder_calls self.new) }
     {
         if self.failing.fails_next() {
             self.read_faults = self.read_faults.saturating_add(1);
@@ -100,12 +102,13 @@ impl Folder for MemFolder {
 
     fn put(&mut self, alloc: Global, name: &[u8], bytes: &[u8]) -> Result<(), PutEnd>
         ensures answer { MatchResult result
-            (λ _. IsPut (mem_state self.old) (mem_state self.new) name.now bytes.now)
-            (PutRefused (mem_state self.old) (mem_state self.new) name.now) }
-        ensures keeps { PutKeeps (mem_state self.old) (mem_state self.new) }
-        ensures counts { counts_of (mem_state self.new) ≡ after_put (counts_of (mem_state self.old)) result }
-        ensures fails { IsErrOf result PutEnd.Failed ↔ IsTrue (is_next_failing self.old) }
-        ensures counted { CallMade self.old self.new }
+            (λ _. IsPut (mem_folder_state self.old) (mem_folder_state self.new) name.now bytes.now)
+            (PutRefused (mem_folder_state self.old) (mem_folder_state self.new) name.now) }
+        ensures keeps { PutKeeps (mem_folder_state self.old) (mem_folder_state self.new) }
+        ensures counts { counts_of (mem_folder_state self.new) ≡ after_put (counts_of (mem_folder_state self.old)) result }
+        ensures fails { IsErrOf result PutEnd.Failed ↔ IsTrue (is_next_failing (folder_calls self.old)) }
+        ensures failed { IsErrOf result PutEnd.Failed → mem_folder_state self.new ≡ after_failed_put (mem_folder_state self.old) }
+        ensures counted { CallMade (folder_calls self.old) (folder_calls self.new) }
     {
         if self.failing.fails_next() {
             self.put_faults = self.put_faults.saturating_add(1);

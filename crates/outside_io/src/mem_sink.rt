@@ -19,14 +19,15 @@ pub struct MemSink {
 
 impl MemSink {
     ghost use Rattle.std.specs.Prelude.{◌≡◌, []};
-    ghost use Rattle.outside_io.specs.MemSink.{mem_written, sink_state, calls_made, failing_numbers};
+    ghost use Rattle.outside_io.specs.MemSink.{mem_written, mem_sink_state, sink_calls};
+    ghost use Rattle.outside_io.specs.FailingCalls.{calls_made, failing_numbers};
 
     /// A sink to which nothing was written, none of whose calls is to fail.
     pub fn new() -> MemSink
         ensures written { mem_written result ≡ [] }
-        ensures faults { (sink_state result).faults ≡ 0 }
-        ensures made { calls_made result ≡ 0 }
-        ensures numbers { failing_numbers result ≡ [] }
+        ensures faults { (mem_sink_state result).faults ≡ 0 }
+        ensures made { calls_made (sink_calls result) ≡ 0 }
+        ensures numbers { failing_numbers (sink_calls result) ≡ [] }
     {
         MemSink {
             room: [0; ROOM],
@@ -38,9 +39,9 @@ impl MemSink {
 
     /// From now on these calls are to fail, and no others. Calls are counted from 1, from the making of the sink on.
     pub fn fail_on(&mut self, calls: Vec<u64>)
-        ensures state { sink_state self.new ≡ sink_state self.old }
-        ensures made { calls_made self.new ≡ calls_made self.old }
-        ensures numbers { failing_numbers self.new ≡ calls.items }
+        ensures state { mem_sink_state self.new ≡ mem_sink_state self.old }
+        ensures made { calls_made (sink_calls self.new) ≡ calls_made (sink_calls self.old) }
+        ensures numbers { failing_numbers (sink_calls self.new) ≡ calls.items }
     {
         self.failing.set(calls);
     }
@@ -57,20 +58,21 @@ impl Sink for MemSink {
     ghost use Rattle.std.specs.Prelude.{◌≡◌, true, false, MatchResult};
     ghost use Rattle.outside_io.specs.State.{Rose, Wrote, WroteFront};
     ghost use Rattle.outside_io.specs.Counts.{after_write};
-    ghost use Rattle.outside_io.specs.MemSink.{sink_state, is_next_failing, CallMade, IsRefused, IsWritten};
+    ghost use Rattle.outside_io.specs.MemSink.{mem_sink_state, sink_calls, IsRefused, IsWritten};
+    ghost use Rattle.outside_io.specs.FailingCalls.{is_next_failing, CallMade};
 
-    ghost state = { sink_state };
+    ghost state = { mem_sink_state };
 
     fn write_all(&mut self, bytes: &[u8]) -> Result<(), SinkFailed>
         ensures answer { MatchResult result
-            (λ _. Wrote (sink_state self.old) (sink_state self.new) bytes.now)
-            (λ _. Rose (sink_state self.old).faults (sink_state self.new).faults
-            × WroteFront (sink_state self.old) (sink_state self.new) bytes.now) }
-        ensures later { (sink_state self.old).faults ≤ (sink_state self.new).faults }
-        ensures faults { (sink_state self.new).faults ≡ after_write (sink_state self.old).faults result }
-        ensures refused { is_next_failing self.old ≡ true → IsRefused self.old self.new result }
-        ensures written { is_next_failing self.old ≡ false → IsWritten self.old self.new bytes.now result }
-        ensures counted { CallMade self.old self.new }
+            (λ _. Wrote (mem_sink_state self.old) (mem_sink_state self.new) bytes.now)
+            (λ _. Rose (mem_sink_state self.old).faults (mem_sink_state self.new).faults
+            × WroteFront (mem_sink_state self.old) (mem_sink_state self.new) bytes.now) }
+        ensures later { (mem_sink_state self.old).faults ≤ (mem_sink_state self.new).faults }
+        ensures faults { (mem_sink_state self.new).faults ≡ after_write (mem_sink_state self.old).faults result }
+        ensures refused { is_next_failing (sink_calls self.old) ≡ true → IsRefused self.old self.new result }
+        ensures written { is_next_failing (sink_calls self.old) ≡ false → IsWritten self.old self.new bytes.now result }
+        ensures counted { CallMade (sink_calls self.old) (sink_calls self.new) }
     {
         if self.failing.fails_next() {
             self.faults = self.faults.saturating_add(1);

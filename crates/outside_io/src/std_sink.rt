@@ -1,7 +1,7 @@
 ghost use Rattle.std.specs.Prelude.{◌≡◌, ◌≤◌, MatchResult};
 ghost use Rattle.outside_io.specs.State.{Rose, Wrote, WroteFront};
 ghost use Rattle.outside_io.specs.Counts.{after_write};
-ghost use Rattle.outside_io.specs.StdSink.{std_state};
+ghost use Rattle.outside_io.specs.StdSink.{std_sink_state};
 
 use crate::{Sink, SinkFailed};
 use std::io;
@@ -17,22 +17,22 @@ pub struct StdSink<R: Drop> {
 impl<R: Print + Drop> StdSink<R> {
     /// The standard output, to which nothing was written by this value.
     pub fn new(rt: R) -> StdSink<R>
-        ensures { (std_state result).faults ≡ 0 }
+        ensures { (std_sink_state result).faults ≡ 0 }
     {
         StdSink { rt, faults: 0 }
     }
 }
 
 impl<R: Print + Drop> Sink for StdSink<R> {
-    ghost state = { std_state };
+    ghost state = { std_sink_state };
 
     fn write_all(&mut self, bytes: &[u8]) -> Result<(), SinkFailed>
         ensures answer { MatchResult result
-            (λ _. Wrote (std_state self.old) (std_state self.new) bytes.now)
-            (λ _. Rose (std_state self.old).faults (std_state self.new).faults
-            × WroteFront (std_state self.old) (std_state self.new) bytes.now) }
-        ensures later { (std_state self.old).faults ≤ (std_state self.new).faults }
-        ensures faults { (std_state self.new).faults ≡ after_write (std_state self.old).faults result }
+            (λ _. Wrote (std_sink_state self.old) (std_sink_state self.new) bytes.now)
+            (λ _. Rose (std_sink_state self.old).faults (std_sink_state self.new).faults
+            × WroteFront (std_sink_state self.old) (std_sink_state self.new) bytes.now) }
+        ensures later { (std_sink_state self.old).faults ≤ (std_sink_state self.new).faults }
+        ensures faults { (std_sink_state self.new).faults ≡ after_write (std_sink_state self.old).faults result }
     {
         if io::writer(&self.rt).write_all(bytes).is_err() {
             self.faults = self.faults.saturating_add(1);

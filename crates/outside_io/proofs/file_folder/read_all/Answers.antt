@@ -1,24 +1,23 @@
-use Rattle.std.proofs.Common.{◌≡◌, ℕ, ◌<◌, List, [], ◌++◌, length, take, arith, subst, ◌∙◌}
-use Rattle.std.proofs.lemmas.List.{take_all, length-take}
-use Rattle.std.specs.Prelude.{None, Some, IfSome}
-use Rattle.std.specs.Option.{option_map}
+-- What was taken where there is no memory for the bytes that came.
+use Rattle.std.proofs.Common.{ℕ, ◌≤◌, ◌+◌, List, ◌++◌, length, take, arith, append_assoc, length-append, ap, sym, ◌∙◌}
+use Rattle.std.proofs.lemmas.List.{length-take}
+use Rattle.std.specs.Prelude.{None, Some}
 use Rattle.std.specs.declared.option.Option.{Option}
+use Rattle.std.specs.Io.KnownBytes.{Consumes}
 use Rattle.outside_io.proofs.file_folder.read_all.Goals as goal
 
--- fewer bytes than were asked for are all that there were
-short_front : (n : ℕ) (rest : List ℕ) → length (take n rest) < n → take n rest ≡ rest
-short_front n rest few = take_all n rest (omega (arith, length-take n rest))
+-- what two reads took, one after the other
+consumes_both : (a b c : Option (List ℕ)) (xs ys : List ℕ) → Consumes a b xs → Consumes b c ys → Consumes a c (xs ++ ys)
+consumes_both None b c xs ys p q = tt
+consumes_both (Some as') None c xs ys p q = absurd p
+consumes_both (Some as') (Some bs) None xs ys p q = absurd q
+consumes_both (Some as') (Some bs) (Some cs) xs ys p q = p ∙ (ap (λ rest. xs ++ rest) q ∙ sym (append_assoc xs ys cs))
 
-all_of : (told : Option (List ℕ)) (n : ℕ) (bytes : List ℕ) → IfSome (option_map (take n) told) (λ xs. bytes ≡ [] ++ xs) → length bytes < n → IfSome told (λ rest. bytes ≡ rest)
-all_of None n bytes is few = tt
-all_of (Some rest) n bytes is few = is ∙ short_front n rest (subst (λ xs. length xs < n) is few)
-
-pub returns-clause-whole : goal.returns-clause-whole
-returns-clause-whole g c =
-    let bytes = c.read_to_end.new.buf.items in
-    let n = c.take.result.limit in
-    let few : length bytes < n =
-    omega (arith, c.take.ensures.limit, c.saturating_add.ensures, c.len.ensures, c.if-len-limit.false, c.read_to_end.new.buf.small, c.read_to_end.new.buf.ok.0, c.read_to_end.new.buf.ok.1) in
-    let read : IfSome (option_map (take n) (g.F.Read.remaining c.take.result.inner)) (λ xs. bytes ≡ [] ++ xs) =
-    subst (λ front. IfSome (option_map (take n) (g.F.Read.remaining c.take.result.inner)) (λ xs. bytes ≡ front ++ xs)) c.in_ok-bytes.ensures.items c.in_default.ensures.bytes in
-    all_of (g.F.Read.remaining c.args.file) n bytes (subst (λ file. IfSome (option_map (take n) (g.F.Read.remaining file)) (λ xs. bytes ≡ [] ++ xs)) c.take.ensures.inner read) few
+pub returns-in_err-extend_from_slice-clause-taken : goal.returns-in_err-extend_from_slice-clause-taken
+returns-in_err-extend_from_slice-clause-taken g c =
+    let remaining = g.F.Read.remaining in
+    let bytes = c.loop-bytes.bytes in
+    let more = take c.in_ok-count.count c.read_front.new.room in
+    let few : length (bytes.items ++ more) ≤ c.args.limit + 1 =
+    omega (arith, length-append bytes.items more, length-take c.in_ok-count.count c.read_front.new.room, bytes.ok.0, c.loop-bytes.invariant.few, c.len-in-loop-bytes.ensures, c.in_ok-count.ensures.count.1, c.saturating_add-most.ensures) in
+    (bytes.items ++ more, consumes_both (remaining c.args.file.now) (remaining c.loop-bytes.file) (remaining c.read_front.new.file) bytes.items more c.loop-bytes.invariant.taken c.in_ok-count.ensures.bytes, few)

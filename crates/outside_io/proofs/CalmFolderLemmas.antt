@@ -8,8 +8,8 @@ use Rattle.std.specs.Ordering.{is_eq, nat_cmp}
 use Rattle.std.specs.Cmp.Lexicographic.{slice_cmp, nat_list_cmp_total}
 use Rattle.std.specs.FinMap.{get, insert, get-insert}
 use Rattle.outside_io.specs.State.{Files, FolderState, SameOthers, IsNotPut}
-use Rattle.outside_io.specs.Ends.{PutRefused}
-use Rattle.outside_io.specs.CalmFolder.{files_of}
+use Rattle.outside_io.specs.Refusals.{PutRefused}
+use Rattle.outside_io.specs.CalmFolder.{held_files}
 use Rattle.outside_io.specs.declared.calm_folder.Held.{Held}
 use Rattle.outside_io.specs.declared.folder.PutEnd.{PutEnd}
 use Rattle.outside_io.specs.declared.folder.PutEnd.TheVariants.{Memory}
@@ -23,10 +23,10 @@ same_others-insert files name bytes other ne =
     get-insert nat_list_cmp_total files name bytes other ∙ ap (λ b. cond b (Some bytes) (get files other)) (other_name name other ne)
 
 -- one more write under that name
-pub same_others-held : (file : Held) (rest new : List Held) (name : List ℕ) → file.name.items ≡ name → new ≡ file ∷ rest → SameOthers name (Some (files_of rest)) (Some (files_of new))
+pub same_others-held : (file : Held) (rest new : List Held) (name : List ℕ) → file.name.items ≡ name → new ≡ file ∷ rest → SameOthers name (Some (held_files rest)) (Some (held_files new))
 same_others-held file rest new name is front =
-    subst (λ files. SameOthers name (Some (files_of rest)) (Some (files_of files))) (sym front)
-    (subst (λ key. SameOthers key (Some (files_of rest)) (Some (insert (files_of rest) file.name.items file.bytes.items))) is (same_others-insert (files_of rest) file.name.items file.bytes.items))
+    subst (λ files. SameOthers name (Some (held_files rest)) (Some (held_files files))) (sym front)
+    (subst (λ key. SameOthers key (Some (held_files rest)) (Some (insert (held_files rest) file.name.items file.bytes.items))) is (same_others-insert (held_files rest) file.name.items file.bytes.items))
 
 -- want of memory, by what it leaves
 pub no_memory : {T : Type 0} (Done : T → Type 0) (result : Result T PutEnd) (old new : FolderState) (name : List ℕ) → IsErrAnd result (λ end. end ≡ Memory) → IsNotPut old new name → MatchResult result Done (PutRefused old new name)

@@ -1,0 +1,15 @@
+use Rattle.std.proofs.Common.{◌≡◌, ◌-◌, ◌≤◌, length, vec_len}
+use Rattle.std.specs.Io.KnownBytes.{Consumes}
+use Rattle.outside_io.proofs.file_folder.read_all.Given as goal
+
+-- the bytes so far are those that were taken, and they are no more than may be
+abbrev pub invariant-loop-bytes : goal.invariant-loop-bytes
+invariant-loop-bytes g l = record {
+  taken : Consumes (g.F.Read.remaining l.fn.file) (g.F.Read.remaining l.file) l.bytes.items;
+  few : vec_len l.bytes ≤ l.most;
+  whole : length l.room.items ≡ 65536;
+}
+
+-- each turn takes at least one byte
+abbrev pub decreases-loop-bytes : goal.decreases-loop-bytes
+decreases-loop-bytes g l = l.most - vec_len l.bytes

@@ -1,0 +1,3 @@
+-- Words of the contracts of calls that are parts of others.
+pub mod Parts
+pub mod Reading
