@@ -1,3 +1,3 @@
+pub mod AnswerLemmas
+pub mod MapSumLemmas
 pub mod Rest
-pub mod Rows
-pub mod Sums

@@ -1,76 +1,39 @@
--- What a top call answers, and why.
-use Rattle.std.specs.Prelude.{◌≡◌, ◌⊎◌, List, ℕ, [], None, Some, Result, IfSome, ⊤}
-use Rattle.std.specs.declared.option.Option.{Option}
-use Rattle.outside_io.specs.State.{Files, PutPair, FolderState, SinkState, Rose, Wrote, WroteFront}
-use Rattle.outside_io.specs.Course.{Run, Course, puts_of, DidAll, Meets}
-use Rattle.lue_run.specs.declared.ended.SessionEnd.{SessionEnd}
-use Rattle.lue_run.specs.declared.ended.SessionEnd.TheVariants as session
+-- What a call of the program answers, and why.
+use Rattle.std.specs.Prelude.{◌≡◌, ◌≤◌, ◌⊎◌, List, ℕ, None, Some, IfSome, ⊤}
+use Rattle.outside_io.specs.State.{Files, FolderState, SinkState, NoCountFell, Rose, Wrote, WroteFront}
+use Rattle.outside_io.specs.Causes.{ReadFault, WriteFault, NoMemory, Outcome, CutOff}
+use Rattle.outside_io.specs.Events.{applied}
+use Rattle.outside_io.specs.Met.{PutsGrew, Meets}
 use Rattle.lue_run.specs.declared.ended.Ended.{Ended}
-use Rattle.lue_run.specs.declared.ended.Ended.TheVariants.{Usage, FolderReadFault, FolderWriteFault, OutFault, Memory}
-use Rattle.lue_run.specs.declared.ended.Tally.{Tally}
-use Rattle.lue_run.specs.Words.{Command}
-use Rattle.lue_run.specs.Ends.{way, end_of, ended_as, line_of, status_of}
-use Rattle.lue_run.specs.PlainRun.{run_of}
+use Rattle.lue_run.specs.declared.ended.Ended.TheVariants.{Usage, Missing, TooLong, FolderReadFault, FolderWriteFault, OutFault, Memory}
+use Rattle.lue_run.specs.Words.{command_of}
+use Rattle.lue_run.specs.Ends.{CourseEnd, why_of, answer_for}
+use Rattle.lue_run.specs.Lines.{line_of, status_of}
+use Rattle.lue_run.specs.Course.{course, outputs, verdict}
 
--- the reads and puts of a command over these files, in order, and its end
-abbrev pub course : Command → Files → Course Tally SessionEnd
-course command files = run_of command files
+-- one call: its words, and the folder and the sink before and after it
+pub record Call : Type 0 where
+  pub words : List (List ℕ)
+  pub before : FolderState
+  pub after : FolderState
+  pub sink_before : SinkState
+  pub sink_after : SinkState
 
--- the files that the command puts, in order
-abbrev pub outputs : Command → Files → List PutPair
-outputs command files = puts_of (course command files).events
+-- the call of these words that took the folder and the sink from their old states to their new ones
+abbrev pub call_of : List (List ℕ) → FolderState → FolderState → SinkState → SinkState → Call
+call_of words before after sink_before sink_after = record {
+  words = words;
+  before = before;
+  after = after;
+  sink_before = sink_before;
+  sink_after = sink_after;
+}
 
--- the end of the command over these files
-abbrev pub verdict : Command → Files → Ended
-verdict command files = ended_as (end_of (course command files).end)
+-- the run of the call came out so
+abbrev pub CameOut : Call → Outcome CourseEnd → Type 0
+CameOut call outcome = Meets why_of (course call.words) call.before call.after outcome
 
--- a call that makes this run came to this end
-abbrev pub Comes : Run Tally SessionEnd → FolderState → FolderState → SessionEnd → Type 0
-Comes run old new end = (result : Result Tally SessionEnd) × (end_of result ≡ end) × Meets way run old new result
-
--- an end that a call comes to before its line
-abbrev pub IsEnd : Ended → Type 0
-IsEnd (OutFault instead) = ⊥
-IsEnd other = ⊤
-
--- an answer that has a line
-abbrev pub HasLine : Ended → Type 0
-HasLine (OutFault instead) = ⊥
-HasLine Memory = ⊥
-HasLine other = ⊤
-
--- What a call came to before its line. Words that are no command touch nothing.
-abbrev pub ComesFor : Option Command → FolderState → FolderState → Ended → Type 0
-ComesFor None old new end = (end ≡ Usage) × (new ≡ old)
-ComesFor (Some command) old new end = (inner : SessionEnd) × (ended_as inner ≡ end) × Comes (run_of command) old new inner
-
--- a call gave up for want of memory
-abbrev pub GivesUp : Option Command → FolderState → FolderState → Type 0
-GivesUp None old new = new ≡ old
-GivesUp (Some command) old new = Comes (run_of command) old new session.Memory
-
--- the line of an end could not be written whole, and the answer says which status stood there instead
-pub record CouldNotWrite (command : Option Command) (old new : FolderState) (out_old out_new : SinkState) (instead : ℕ) : Type 0 where
-  pub end : Ended
-  pub comes : ComesFor command old new end
-  pub status : instead ≡ status_of end
-  pub rose : Rose out_old.faults out_new.faults
-  pub front : WroteFront out_old out_new (line_of end)
-
--- What a top call answers: its end, whose line was written and nothing else; or a line that could not be written whole; or
--- want of memory, and nothing was written.
-abbrev pub Answers : Option Command → FolderState → FolderState → SinkState → SinkState → Ended → Type 0
-Answers command old new out_old out_new (OutFault instead) = CouldNotWrite command old new out_old out_new instead
-Answers command old new out_old out_new Memory = GivesUp command old new × Wrote out_old out_new []
-Answers command old new out_old out_new end = ComesFor command old new end × Wrote out_old out_new (line_of end)
-
--- what is told of an end: its line and nothing else; a front of its line, and its status; or want of memory, and nothing
-abbrev pub Told : Ended → SinkState → SinkState → Ended → Type 0
-Told end old new (OutFault instead) = (instead ≡ status_of end) × Rose old.faults new.faults × WroteFront old new (line_of end)
-Told end old new Memory = Wrote old new []
-Told end old new answer = (answer ≡ end) × Wrote old new (line_of end)
-
--- ---- rows that follow
+-- ---- the verdict
 
 -- an answer that the words and the files alone decide
 abbrev pub IsVerdictKind : Ended → Type 0
@@ -80,17 +43,71 @@ IsVerdictKind (OutFault instead) = ⊥
 IsVerdictKind Memory = ⊥
 IsVerdictKind other = ⊤
 
--- the verdict, where the files are told, with all its outputs put; words that are no command touch nothing
-abbrev pub IsVerdict : Option Command → FolderState → FolderState → Ended → Type 0
-IsVerdict None old new end = (end ≡ Usage) × (new ≡ old)
-IsVerdict (Some command) old new end = IfSome old.holds (λ files. (end ≡ verdict command files) × DidAll files old new (course command files).events)
+-- over these files the answer is the verdict, the puts that succeeded grew by the outputs, and the folder holds what it held
+-- with these puts applied, in order
+pub record IsVerdictOver (call : Call) (said : Ended) (files : Files) : Type 0 where
+  pub answer : said ≡ verdict call.words files
+  pub puts : PutsGrew call.before call.after (outputs call.words files)
+  pub holds : call.after.holds ≡ Some (applied (outputs call.words files) files)
+
+-- where the folder tells its files, the answer is the verdict over them, with all outputs put
+abbrev pub IsVerdict : Call → Ended → Type 0
+IsVerdict call answer = IfSome call.before.holds (IsVerdictOver call answer)
+
+-- ---- why each answer comes
+
+-- an answer that has a line
+abbrev pub HasLine : Ended → Type 0
+HasLine (OutFault instead) = ⊥
+HasLine Memory = ⊥
+HasLine other = ⊤
+
+-- The call came out with an answer that has a line, whose status is told instead; the sink failed, and got a front of it.
+pub record CouldNotWrite (call : Call) (instead : ℕ) : Type 0 where
+  pub outcome : Outcome CourseEnd
+  pub came : CameOut call outcome
+  pub has_line : HasLine (answer_for outcome)
+  pub status : instead ≡ status_of (answer_for outcome)
+  pub rose : Rose call.sink_before.faults call.sink_after.faults
+  pub front : WroteFront call.sink_before call.sink_after (line_of (answer_for outcome))
+
+-- What shows each answer: words that are no command, a count of the folder that rose, the read or put of the course at
+-- which the folder failed, or the line that could not be written. The verdict shows the others.
+abbrev pub IsShown : Call → Ended → Type 0
+IsShown call Usage = command_of call.words ≡ None
+IsShown call (Missing name) = Rose call.before.absents call.after.absents
+IsShown call (TooLong name) = Rose call.before.overlongs call.after.overlongs
+IsShown call (FolderReadFault name) = CameOut call (CutOff (ReadFault name))
+IsShown call (FolderWriteFault name) = CameOut call (CutOff (WriteFault name))
+IsShown call (OutFault instead) = CouldNotWrite call instead
+IsShown call Memory = CameOut call (CutOff NoMemory)
+IsShown call other = ⊤
+
+-- words that are no command touch nothing, and that is said
+pub record IsRefused (call : Call) (answer : Ended) : Type 0 where
+  pub untouched : call.after ≡ call.before
+  pub said : (answer ≡ Usage) ⊎ (answer ≡ OutFault (status_of Usage)) ⊎ (answer ≡ Memory)
+
+-- ---- the line
+
+-- The sink got the line of the answer and nothing else; none for want of memory. After a failed write the cause says what.
+abbrev pub IsWritten : Call → Ended → Type 0
+IsWritten call (OutFault instead) = ⊤
+IsWritten call answer = Wrote call.sink_before call.sink_after (line_of answer)
+
+-- ---- where nothing failed
 
 -- no fault of the folder or of the sink came
-pub record NoFault (old new : FolderState) (out_old out_new : SinkState) : Type 0 where
-  pub reads : ¬ (Rose old.read_faults new.read_faults)
-  pub puts : ¬ (Rose old.put_faults new.put_faults)
-  pub writes : ¬ (Rose out_old.faults out_new.faults)
+pub record NoFault (call : Call) : Type 0 where
+  pub reads : ¬ (Rose call.before.read_faults call.after.read_faults)
+  pub puts : ¬ (Rose call.before.put_faults call.after.put_faults)
+  pub writes : ¬ (Rose call.sink_before.faults call.sink_after.faults)
 
 -- the verdict with its outputs put and its line written, or want of memory
-abbrev pub IsComplete : Option Command → FolderState → FolderState → SinkState → SinkState → Ended → Type 0
-IsComplete command old new out_old out_new end = (end ≡ Memory) ⊎ (IsVerdict command old new end × Wrote out_old out_new (line_of end))
+abbrev pub IsComplete : Call → Ended → Type 0
+IsComplete call answer = (answer ≡ Memory) ⊎ (IsVerdict call answer × Wrote call.sink_before call.sink_after (line_of answer))
+
+-- no count of the folder or of the sink fell
+pub record KeepsCounts (call : Call) : Type 0 where
+  pub folder : NoCountFell call.before call.after
+  pub sink : call.sink_before.faults ≤ call.sink_after.faults

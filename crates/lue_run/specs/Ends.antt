@@ -1,91 +1,84 @@
--- How a run ends: the answer, its line and its status.
-use Rattle.std.specs.Prelude.{List, ℕ, [], ◌++◌, Ok, Err, Result, codes, decimal}
-use Rattle.outside_io.specs.Course.{Way, Ends, ReadFault, WriteFault, NoMemory, ByContents, ByAbsence, ByLength}
-use Rattle.grid_text.specs.declared.fault.GridKind.{GridKind}
-use Rattle.grid_text.specs.declared.fault.GridKind.TheVariants as kinds
+-- How a run ends, and the answer of a call for it.
+use Rattle.std.specs.Prelude.{List, ℕ, Ok, Err, Result}
+use Rattle.outside_io.specs.Causes.{Fault, ReadFault, WriteFault, NoMemory, Outcome, CameTo, CutOff, Why, ByContents, ByAbsence, ByLength}
 use Rattle.lue_run.specs.declared.ended.InputKind.{InputKind}
-use Rattle.lue_run.specs.declared.ended.InputKind.TheVariants.{Grid, Size}
 use Rattle.lue_run.specs.declared.ended.SessionEnd.{SessionEnd}
-use Rattle.lue_run.specs.declared.ended.SessionEnd.TheVariants.{Done, Missing, TooLong, Unbuilt, Input, Overflow, FolderReadFault, FolderWriteFault, Memory}
+use Rattle.lue_run.specs.declared.ended.SessionEnd.TheVariants as session
 use Rattle.lue_run.specs.declared.ended.Ended.{Ended}
 use Rattle.lue_run.specs.declared.ended.Ended.TheVariants as top
 use Rattle.lue_run.specs.declared.ended.OverAt.{OverAt}
 use Rattle.lue_run.specs.declared.ended.Tally.{Tally}
 
--- how each end of a run comes
-abbrev pub way : SessionEnd → Way
-way (Done files steps) = Ends ByContents
-way (Missing name) = Ends ByAbsence
-way (TooLong name) = Ends ByLength
-way (Unbuilt name) = Ends ByContents
-way (Input name kind) = Ends ByContents
-way (Overflow at) = Ends ByContents
-way (FolderReadFault name) = ReadFault name
-way (FolderWriteFault name) = WriteFault name
-way Memory = NoMemory
+-- ---- the ends of a script, which its text and its files decide
 
--- the end of a run, by what came out of it
-abbrev pub end_of : Result Tally SessionEnd → SessionEnd
+-- how the course of a script ends
+pub data ScriptEnd : Type 0 where
+  Done : (files steps : ℕ) → ScriptEnd
+  Missing : (name : List ℕ) → ScriptEnd
+  TooLong : (name : List ℕ) → ScriptEnd
+  Unbuilt : (name : List ℕ) → ScriptEnd
+  Input : (name : List ℕ) (kind : InputKind) → ScriptEnd
+  Overflow : (at : OverAt) → ScriptEnd
+
+-- why a script ends so
+abbrev pub why : ScriptEnd → Why
+why (Done files steps) = ByContents
+why (Missing name) = ByAbsence
+why (TooLong name) = ByLength
+why (Unbuilt name) = ByContents
+why (Input name kind) = ByContents
+why (Overflow at) = ByContents
+
+-- the end of a script, by what came out of its parts
+abbrev pub end_of : Result Tally ScriptEnd → ScriptEnd
 end_of (Ok tally) = Done tally.files tally.steps
 end_of (Err end) = end
 
--- the answer of the top call for the end of a run
-abbrev pub ended_as : SessionEnd → Ended
-ended_as (Done files steps) = top.Done files steps
-ended_as (Missing name) = top.Missing name
-ended_as (TooLong name) = top.TooLong name
-ended_as (Unbuilt name) = top.Unbuilt name
-ended_as (Input name kind) = top.Input name kind
-ended_as (Overflow at) = top.Overflow at
-ended_as (FolderReadFault name) = top.FolderReadFault name
-ended_as (FolderWriteFault name) = top.FolderWriteFault name
-ended_as Memory = top.Memory
+-- how the run of a script came out that is answered so
+abbrev pub outcome_of : SessionEnd → Outcome ScriptEnd
+outcome_of (session.Done files steps) = CameTo (Done files steps)
+outcome_of (session.Missing name) = CameTo (Missing name)
+outcome_of (session.TooLong name) = CameTo (TooLong name)
+outcome_of (session.Unbuilt name) = CameTo (Unbuilt name)
+outcome_of (session.Input name kind) = CameTo (Input name kind)
+outcome_of (session.Overflow at) = CameTo (Overflow at)
+outcome_of (session.FolderReadFault name) = CutOff (ReadFault name)
+outcome_of (session.FolderWriteFault name) = CutOff (WriteFault name)
+outcome_of session.Memory = CutOff NoMemory
 
--- a line of a text and a name
-abbrev pub named_line : List ℕ → List ℕ → List ℕ
-named_line text name = text ++ name ++ codes "\n"
+-- ---- the ends of a call, which its words and the files decide
 
--- the word for the kind of a grid's fault
-abbrev pub grid_word : GridKind → List ℕ
-grid_word kinds.Head = codes "head"
-grid_word kinds.BadNumber = codes "bad-number"
-grid_word kinds.Range = codes "range"
-grid_word kinds.Count = codes "count"
+-- how the course of a call ends
+pub data CourseEnd : Type 0 where
+  Usage : CourseEnd
+  OfScript : (end : ScriptEnd) → CourseEnd
 
--- the line of an input that is not as it is to be
-abbrev pub input_line : List ℕ → InputKind → List ℕ
-input_line name (Grid fault) = codes "input " ++ name ++ codes " grid " ++ grid_word fault.kind ++ codes " " ++ decimal fault.at ++ codes "\n"
-input_line name (Size rows cols) = codes "input " ++ name ++ codes " size " ++ decimal rows ++ codes " " ++ decimal cols ++ codes "\n"
+-- why a call ends so
+abbrev pub why_of : CourseEnd → Why
+why_of Usage = ByContents
+why_of (OfScript end) = why end
 
--- the line of an overflow
-abbrev pub over_line : OverAt → List ℕ
-over_line at = codes "overflow step " ++ decimal at.step ++ codes " statement " ++ decimal at.statement ++ codes " operation " ++ decimal at.operation
-    ++ codes " row " ++ decimal at.row ++ codes " col " ++ decimal at.col ++ codes "\n"
+-- the answer for the end of a script
+abbrev pub script_answer : ScriptEnd → Ended
+script_answer (Done files steps) = top.Done files steps
+script_answer (Missing name) = top.Missing name
+script_answer (TooLong name) = top.TooLong name
+script_answer (Unbuilt name) = top.Unbuilt name
+script_answer (Input name kind) = top.Input name kind
+script_answer (Overflow at) = top.Overflow at
 
--- the line that is written for an answer; none is written for the last two
-abbrev pub line_of : Ended → List ℕ
-line_of (top.Done files steps) = codes "done files=" ++ decimal files ++ codes " steps=" ++ decimal steps ++ codes "\n"
-line_of top.Usage = codes "usage\n"
-line_of (top.Missing name) = named_line (codes "missing ") name
-line_of (top.TooLong name) = named_line (codes "too long ") name
-line_of (top.Unbuilt name) = named_line (codes "unbuilt ") name
-line_of (top.Input name kind) = input_line name kind
-line_of (top.Overflow at) = over_line at
-line_of (top.FolderReadFault name) = named_line (codes "read fault ") name
-line_of (top.FolderWriteFault name) = named_line (codes "write fault ") name
-line_of (top.OutFault instead) = []
-line_of top.Memory = []
+-- the answer for the end of a call's course
+abbrev pub end_answer : CourseEnd → Ended
+end_answer Usage = top.Usage
+end_answer (OfScript end) = script_answer end
 
--- the exit status of an answer
-abbrev pub status_of : Ended → ℕ
-status_of (top.Done files steps) = 0
-status_of top.Usage = 2
-status_of (top.Missing name) = 4
-status_of (top.TooLong name) = 4
-status_of (top.Unbuilt name) = 11
-status_of (top.Input name kind) = 4
-status_of (top.Overflow at) = 5
-status_of (top.FolderReadFault name) = 7
-status_of (top.FolderWriteFault name) = 8
-status_of (top.OutFault instead) = 9
-status_of top.Memory = 10
+-- the answer for what cut a call off
+abbrev pub fault_answer : Fault → Ended
+fault_answer (ReadFault name) = top.FolderReadFault name
+fault_answer (WriteFault name) = top.FolderWriteFault name
+fault_answer NoMemory = top.Memory
+
+-- the answer for how a call came out, before its line is written
+abbrev pub answer_for : Outcome CourseEnd → Ended
+answer_for (CameTo end) = end_answer end
+answer_for (CutOff fault) = fault_answer fault

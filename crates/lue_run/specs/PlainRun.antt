@@ -3,7 +3,9 @@ use Rattle.std.specs.Prelude.{List, ℕ, Bool, ◌&&◌, ◌==◌, [], ◌∷◌
 use Rattle.std.specs.declared.option.Option.{Option}
 use Rattle.cell_values.specs.declared.cell.Cell.{Cell}
 use Rattle.cell_values.specs.declared.kind.Kind.TheVariants.{Scalar}
-use Rattle.outside_io.specs.Course.{Run, ◌>>=◌, settled, reading, putting}
+use Rattle.outside_io.specs.Events.{Run}
+use Rattle.outside_io.specs.Runs.{◌>>=◌, settled, reading, putting, end_as}
+use Rattle.text_base.specs.Limits.{most_script_bytes, most_text_bytes}
 use Rattle.script_syntax.specs.declared.tree.Binding.{Binding}
 use Rattle.script_syntax.specs.declared.tree.Script.{Script}
 use Rattle.script_syntax.specs.declared.tree.Statement.{Statement}
@@ -16,22 +18,12 @@ use Rattle.grid_text.specs.Reading.{grid_of}
 use Rattle.grid_text.specs.Written.{written_grid}
 use Rattle.lue_run.specs.declared.ended.InputKind.TheVariants as inputs
 use Rattle.lue_run.specs.declared.ended.OverAt.{OverAt}
-use Rattle.lue_run.specs.declared.ended.SessionEnd.{SessionEnd}
-use Rattle.lue_run.specs.declared.ended.SessionEnd.TheVariants.{Missing, TooLong, Unbuilt, Input, Overflow}
 use Rattle.lue_run.specs.declared.ended.Tally.{Tally}
-use Rattle.lue_run.specs.MapSum.{sums_from}
-use Rattle.lue_run.specs.Words.{Command, Plain}
-
--- the most bytes of a script
-abbrev pub script_limit : ℕ
-script_limit = 1048576
-
--- the most bytes of any other file
-abbrev pub file_limit : ℕ
-file_limit = 268435456
+use Rattle.lue_run.specs.Ends.{ScriptEnd, Missing, TooLong, Unbuilt, Input, Overflow, end_of}
+use Rattle.lue_run.specs.inside.Sums.{sums_from}
 
 -- what a file's text stands for, or the end where it stands for nothing that is built
-abbrev pub or_unbuilt : {X : Type 0} → List ℕ → Option X → Result X SessionEnd
+abbrev pub or_unbuilt : {X : Type 0} → List ℕ → Option X → Result X ScriptEnd
 or_unbuilt name (Some x) = Ok x
 or_unbuilt name None = Err (Unbuilt name)
 
@@ -48,31 +40,31 @@ abbrev pub file_of : Target → List ℕ
 file_of (File name) = name
 
 -- the files of two bindings and one statement
-abbrev pub files_of : List Binding → List Statement → Option SumFiles
-files_of (a ∷ b ∷ []) (statement ∷ []) = Some (record { first = file_of a.target; second = file_of b.target; target = statement.name })
-files_of bindings statements = None
+abbrev pub sum_files_of : List Binding → List Statement → Option SumFiles
+sum_files_of (a ∷ b ∷ []) (statement ∷ []) = Some (record { first = file_of a.target; second = file_of b.target; target = statement.name })
+sum_files_of bindings statements = None
 
 -- the files of a script that reports the sum of the two maps that it binds, as each script of the pair form does
 abbrev pub sum_files : Script → Option SumFiles
-sum_files script = files_of script.bindings script.initial
+sum_files script = sum_files_of script.bindings script.initial
 
 -- the script is read, then its text
-abbrev pub script_run : List ℕ → Run Script SessionEnd
-script_run name = do
-  text ← reading Missing TooLong name script_limit
+abbrev pub text_run : List ℕ → Run (Result Script ScriptEnd)
+text_run name = do
+  text ← reading Missing TooLong name most_script_bytes
   settled (or_unbuilt name (script_of text))
 
 -- ---- the grids
 
 -- the grid of a text, or the end of a run at the text's first fault
-abbrev pub or_input : List ℕ → Result Grid GridFault → Result Grid SessionEnd
+abbrev pub or_input : List ℕ → Result Grid GridFault → Result Grid ScriptEnd
 or_input name (Ok grid) = Ok grid
 or_input name (Err fault) = Err (Input name (inputs.Grid fault))
 
 -- a grid is read, then its text
-abbrev pub grid_run : List ℕ → Run Grid SessionEnd
+abbrev pub grid_run : List ℕ → Run (Result Grid ScriptEnd)
 grid_run name = do
-  text ← reading Missing TooLong name file_limit
+  text ← reading Missing TooLong name most_text_bytes
   settled (or_input name (grid_of Scalar text))
 
 -- the first place of a map of so many columns whose sum is out of range
@@ -80,7 +72,7 @@ abbrev pub over_at : ℕ → ℕ → OverAt
 over_at cols place = record { step = 0; statement = 1; operation = 1; row = place / cols + 1; col = place % cols + 1 }
 
 -- the map of sums, or the end of a run at the first sum that is out of range
-abbrev pub or_overflow : ℕ → Result (List Cell) ℕ → Result (List Cell) SessionEnd
+abbrev pub or_overflow : ℕ → Result (List Cell) ℕ → Result (List Cell) ScriptEnd
 or_overflow cols (Ok cells) = Ok cells
 or_overflow cols (Err place) = Err (Overflow (over_at cols place))
 
@@ -89,13 +81,13 @@ abbrev pub same_size : Grid → Grid → Bool
 same_size a b = (a.rows == b.rows) && (a.cols == b.cols)
 
 -- the sum of two grids, of which the second one has this name; it is to have the first one's size
-unfoldable pub grid_sum : List ℕ → Grid → Grid → Result (List Cell) SessionEnd
+unfoldable pub grid_sum : List ℕ → Grid → Grid → Result (List Cell) ScriptEnd
 grid_sum name a b = if same_size a b then or_overflow a.cols (sums_from 0 a.cells b.cells) else Err (Input name (inputs.Size b.rows b.cols))
 
 -- ---- the run
 
 -- two grids are read in order, and their sum is put, with the head of the first
-abbrev pub grids_run : SumFiles → Run Tally SessionEnd
+abbrev pub grids_run : SumFiles → Run (Result Tally ScriptEnd)
 grids_run files = do
   first ← grid_run files.first
   second ← grid_run files.second
@@ -104,12 +96,12 @@ grids_run files = do
   settled (Ok (record { files = 1; steps = 0 }))
 
 -- the script of this name is read, and then its sum is run
-abbrev pub sum_run : List ℕ → Run Tally SessionEnd
+abbrev pub sum_run : List ℕ → Run (Result Tally ScriptEnd)
 sum_run name = do
-  script ← script_run name
+  script ← text_run name
   files ← settled (or_unbuilt name (sum_files script))
   grids_run files
 
--- what each command does
-abbrev pub run_of : Command → Run Tally SessionEnd
-run_of (Plain script) = sum_run script
+-- the run of the script of this name
+abbrev pub script_run : List ℕ → Run ScriptEnd
+script_run name = end_as end_of (sum_run name)

@@ -1,14 +1,8 @@
 -- The words of a call, and the command that they give.
-use Rattle.std.specs.Prelude.{List, ℕ, Bool, false, ◌&&◌, nat_le, [], ◌∷◌, Some, None, codes, bytes_eq, if◌then◌else◌, length}
-use Rattle.std.specs.List.{list_all}
+use Rattle.std.specs.Prelude.{List, ℕ, ◌&&◌, [], ◌∷◌, Some, None, codes, bytes_eq, if◌then◌else◌}
 use Rattle.std.specs.Option.{option_map}
 use Rattle.std.specs.declared.option.Option.{Option}
-use Rattle.script_syntax.specs.Tokens.{is_word_byte, is_file_byte}
-
--- a word that names a file: at most 64 letters, digits, `_`, `.`, `-` and `+`, of which the first is a letter, a digit or `_`
-abbrev pub is_file_word : List ℕ → Bool
-is_file_word [] = false
-is_file_word (b ∷ bytes) = is_word_byte b && nat_le (length bytes) 63 && list_all is_file_byte bytes
+use Rattle.text_base.specs.Words.{is_file_word}
 
 -- what the words of a call ask for
 pub data Command : Type 0 where

@@ -1,7 +1,8 @@
 ghost use Rattle.std.specs.Prelude.{◌≤◌, length, IfOk};
-ghost use Rattle.outside_io.specs.Course.{Meets, putting, reading, seen_by};
-ghost use Rattle.lue_run.specs.declared.ended.SessionEnd.TheVariants.{Missing, TooLong};
-ghost use Rattle.lue_run.specs.Ends.{way};
+ghost use Rattle.outside_io.specs.Runs.{putting, reading};
+ghost use Rattle.outside_io.specs.inside.Parts.{seen_by};
+ghost use Rattle.lue_run.specs.Ends.{Missing, TooLong};
+ghost use Rattle.lue_run.specs.inside.Parts.{Makes};
 
 use crate::ended::SessionEnd;
 use cell_values::Word;
@@ -15,7 +16,7 @@ pub fn fetch<F: Folder>(
     name: &Word,
     limit: u64,
 ) -> Result<Vec<u8>, SessionEnd>
-    ensures meets { Meets way (reading Missing TooLong name.now limit)
+    ensures meets { Makes (reading Missing TooLong name.now limit)
         (F.state folder.old) (F.state folder.new) (seen_by (λ bytes. bytes.items) result) }
     ensures short { IfOk result (λ bytes. length bytes.items ≤ limit) }
 {
@@ -42,7 +43,7 @@ pub fn store<F: Folder>(
     name: &Word,
     bytes: &[u8],
 ) -> Result<(), SessionEnd>
-    ensures { Meets way (putting name.now bytes.now) (F.state folder.old) (F.state folder.new) result }
+    ensures { Makes (putting name.now bytes.now) (F.state folder.old) (F.state folder.new) result }
 {
     let Ok(word) = name.twin(alloc) else {
         return Err(SessionEnd::Memory);

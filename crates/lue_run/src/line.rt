@@ -1,5 +1,5 @@
 ghost use Rattle.std.specs.Prelude.{◌≡◌, ◌++◌, IfOk, OnErr, OnOk, codes, decimal};
-ghost use Rattle.lue_run.specs.Ends.{grid_word, input_line, line_of, named_line, over_line, status_of};
+ghost use Rattle.lue_run.specs.Lines.{grid_word, input_line, line_of, named_line, over_line, status_of};
 
 use crate::ended::{Ended, InputKind, OverAt};
 use cell_values::Word;

@@ -1,8 +1,11 @@
 ghost use Rattle.std.specs.Prelude.{◌≡◌, ◌<◌, ◌≤◌, length, MatchOption, IfOk, None, Some};
-ghost use Rattle.outside_io.specs.Course.{Meets, Settles, putting};
-ghost use Rattle.lue_run.specs.Ends.{way};
-ghost use Rattle.lue_run.specs.PlainRun.{grid_run, grid_sum, grids_run, over_at, or_input, or_unbuilt, script_run, sum_files, sum_run};
-ghost use Rattle.lue_run.specs.Sized.{IsInput, IsSized, IsUnbuilt, view};
+ghost use Rattle.text_base.specs.Limits.{most_cells, most_script_bytes, most_text_bytes};
+ghost use Rattle.outside_io.specs.Runs.{putting};
+ghost use Rattle.outside_io.specs.Met.{Meets};
+ghost use Rattle.lue_run.specs.Ends.{outcome_of, why};
+ghost use Rattle.lue_run.specs.PlainRun.{grid_run, grid_sum, grids_run, over_at, or_input, or_unbuilt, script_run, sum_files, sum_run, text_run};
+ghost use Rattle.lue_run.specs.inside.Parts.{Gives, Makes};
+ghost use Rattle.lue_run.specs.inside.Values.{IsInput, IsSized, IsUnbuilt, files_named};
 ghost use Rattle.cell_values.specs.declared.kind.Kind.TheVariants.{Scalar};
 ghost use Rattle.grid_text.specs.Reading.{grid_of};
 ghost use Rattle.grid_text.specs.Written.{written_grid};
@@ -16,12 +19,7 @@ use grid_text::{Grid, ReadGrid, read_grid, write_grid};
 use outside_io::Folder;
 use script_syntax::{ReadScript, Script, Target, read_script};
 use std::alloc::Global;
-
-/// The most bytes of a script.
-const SCRIPT_LIMIT: u64 = 1_048_576;
-
-/// The most bytes of any other file.
-const FILE_LIMIT: u64 = 268_435_456;
+use text_base::{MOST_SCRIPT_BYTES, MOST_TEXT_BYTES};
 
 /// The files of a sum: those of its two operands, and that of its result.
 #[derive(Drop)]
@@ -32,8 +30,8 @@ pub struct SumFiles<'a> {
 }
 
 // The files of a script that reports the sum of the two maps that it binds.
-fn files_of(script: &Script) -> Option<SumFiles<'_>>
-    ensures { MatchOption result (sum_files script.now ≡ None) (λ files. sum_files script.now ≡ Some (view files)) }
+fn sum_files_of(script: &Script) -> Option<SumFiles<'_>>
+    ensures { MatchOption result (sum_files script.now ≡ None) (λ files. sum_files script.now ≡ Some (files_named files)) }
 {
     match (script.bindings.as_slice(), script.initial.as_slice()) {
         ([a, b], [statement]) => {
@@ -51,8 +49,8 @@ fn files_of(script: &Script) -> Option<SumFiles<'_>>
 
 // The files of a script by its text.
 fn parse_script(alloc: Global, name: &Word, text: &[u8]) -> Result<Script, SessionEnd>
-    requires { length text.now ≤ 1048576 }
-    ensures { Settles way (or_unbuilt name.now (script_of text.now)) result }
+    requires { length text.now ≤ most_script_bytes }
+    ensures { Gives (or_unbuilt name.now (script_of text.now)) result }
 {
     match read_script(alloc, text) {
         Ok(script) => Ok(script),
@@ -83,8 +81,8 @@ fn input(alloc: Global, name: &Word, kind: InputKind) -> SessionEnd
 
 // The grid of a text.
 fn parse_grid(alloc: Global, name: &Word, text: &[u8]) -> Result<Grid, SessionEnd>
-    requires { length text.now ≤ 268435456 }
-    ensures settles { Settles way (or_input name.now (grid_of Scalar text.now)) result }
+    requires { length text.now ≤ most_text_bytes }
+    ensures settles { Gives (or_input name.now (grid_of Scalar text.now)) result }
     ensures sized { IfOk result IsSized }
 {
     match read_grid(alloc, Kind::Scalar, text) {
@@ -96,17 +94,17 @@ fn parse_grid(alloc: Global, name: &Word, text: &[u8]) -> Result<Grid, SessionEn
 
 // Reads a grid.
 fn grid_at<F: Folder>(alloc: Global, folder: &mut F, name: &Word) -> Result<Grid, SessionEnd>
-    ensures meets { Meets way (grid_run name.now) (F.state folder.old) (F.state folder.new) result }
+    ensures meets { Makes (grid_run name.now) (F.state folder.old) (F.state folder.new) result }
     ensures sized { IfOk result IsSized }
 {
-    let text = fetch(alloc, folder, name, FILE_LIMIT)?;
+    let text = fetch(alloc, folder, name, MOST_TEXT_BYTES)?;
     parse_grid(alloc, name, &text)
 }
 
 // Where a map of so many columns has its first sum that is out of range.
 fn over_at(cols: u32, place: usize) -> OverAt
     requires some { 0 < cols }
-    requires few { place < 4194304 }
+    requires few { place < most_cells }
     ensures { result ≡ over_at cols place }
 {
     OverAt {
@@ -128,7 +126,7 @@ fn put_grid<F: Folder>(
 ) -> Result<(), SessionEnd>
     requires size { IsSized first.now }
     requires count { length sum.now ≡ length first.now.cells }
-    ensures { Meets way (putting target.now (written_grid Scalar first.now.rows first.now.cols first.now.head sum.now))
+    ensures { Makes (putting target.now (written_grid Scalar first.now.rows first.now.cols first.now.head sum.now))
         (F.state folder.old) (F.state folder.new) result }
 {
     let cells = sum.as_slice();
@@ -150,7 +148,7 @@ fn put_grid<F: Folder>(
 fn sum_grids(alloc: Global, name: &Word, first: &Grid, second: &Grid) -> Result<Cells, SessionEnd>
     requires first { IsSized first.now }
     requires second { IsSized second.now }
-    ensures settles { Settles way (grid_sum name.now first.now second.now) result }
+    ensures settles { Gives (grid_sum name.now first.now second.now) result }
     ensures count { IfOk result (λ cells. length cells ≡ length first.now.cells) }
 {
     if first.rows != second.rows || first.cols != second.cols {
@@ -173,7 +171,7 @@ fn put_sum<F: Folder>(
     folder: &mut F,
     files: &SumFiles<'_>,
 ) -> Result<Tally, SessionEnd>
-    ensures { Meets way (grids_run (view files.now)) (F.state folder.old) (F.state folder.new) result }
+    ensures { Makes (grids_run (files_named files.now)) (F.state folder.old) (F.state folder.new) result }
 {
     let first = grid_at(alloc, folder, files.first)?;
     let second = grid_at(alloc, folder, files.second)?;
@@ -184,23 +182,32 @@ fn put_sum<F: Folder>(
 
 // Reads a script.
 fn script_at<F: Folder>(alloc: Global, folder: &mut F, name: &Word) -> Result<Script, SessionEnd>
-    ensures { Meets way (script_run name.now) (F.state folder.old) (F.state folder.new) result }
+    ensures { Makes (text_run name.now) (F.state folder.old) (F.state folder.new) result }
 {
-    let text = fetch(alloc, folder, name, SCRIPT_LIMIT)?;
+    let text = fetch(alloc, folder, name, MOST_SCRIPT_BYTES)?;
     parse_script(alloc, name, &text)
 }
 
-/// Runs the script of this name.
-pub fn run_script<F: Folder>(
-    alloc: Global,
-    folder: &mut F,
-    name: &Word,
-) -> Result<Tally, SessionEnd>
-    ensures { Meets way (sum_run name.now) (F.state folder.old) (F.state folder.new) result }
+// Reads the script of this name and its grids, and puts their sum.
+fn make_sum<F: Folder>(alloc: Global, folder: &mut F, name: &Word) -> Result<Tally, SessionEnd>
+    ensures { Makes (sum_run name.now) (F.state folder.old) (F.state folder.new) result }
 {
     let script = script_at(alloc, folder, name)?;
-    let Some(files) = files_of(&script) else {
+    let Some(files) = sum_files_of(&script) else {
         return Err(unbuilt(alloc, name));
     };
     put_sum(alloc, folder, &files)
+}
+
+/// Runs the script of this name.
+pub fn run_script<F: Folder>(alloc: Global, folder: &mut F, name: &Word) -> SessionEnd
+    ensures { Meets why (script_run name.now) (F.state folder.old) (F.state folder.new) (outcome_of result) }
+{
+    match make_sum(alloc, folder, name) {
+        Ok(tally) => SessionEnd::Done {
+            files: tally.files,
+            steps: tally.steps,
+        },
+        Err(end) => end,
+    }
 }

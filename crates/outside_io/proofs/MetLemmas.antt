@@ -1,5 +1,5 @@
 -- A run is met part by part.
-use Rattle.std.proofs.Common.{◌⊎◌, inl, inr, ◌≡◌, ℕ, ◌≤◌, ◌<◌, List, [], ◌∷◌, ◌++◌, length, false, leb, refl, sym, ap, subst, cond, ◌∙◌, append_assoc, append-nil, arith}
+use Rattle.std.proofs.Common.{◌≡◌, ℕ, ◌<◌, List, [], ◌∷◌, ◌++◌, length, false, leb, refl, sym, ap, subst, cond, ◌∙◌, append_assoc, append-nil, arith}
 use Rattle.std.proofs.lemmas.Bool.{le-leb}
 use Rattle.std.proofs.lemmas.Bool.Decides.{nat_tests}
 use Rattle.std.specs.Prelude.{None, Some, Ok, Err, Result, IfSome, IsSomeAnd}
@@ -57,10 +57,10 @@ read_keeps_all s = record { holds = refl; puts = refl; put_faults = refl; later 
 
 -- ---- facts on the files, where they are told
 
--- one fact from another
-told : (holds : Option Files) (P Q : Files → Type 0) → ((files : Files) → P files → Q files) → IfSome holds P → IfSome holds Q
-told None P Q on p = tt
-told (Some files) P Q on p = on files p
+-- one fact on the files from another
+pub if_told : (holds : Option Files) (P Q : Files → Type 0) → ((files : Files) → P files → Q files) → IfSome holds P → IfSome holds Q
+if_told None P Q on p = tt
+if_told (Some files) P Q on p = on files p
 
 -- a fact from what holds the files
 where_told : (s : FolderState) (holds : Option Files) (P : Files → Type 0) → s.holds ≡ holds → ((files : Files) → s.holds ≡ Some files → P files) → IfSome holds P
@@ -147,7 +147,7 @@ module _ {X Y E : Type 0} (why : E → Why) (run : Run (Result X E)) (next : X �
   meets_stop old new outcome m = record {
     later = m.later;
     cause = same_cause X Y why old new outcome m.cause;
-    follows = told old.holds (λ files. Follows (run files) files old new (stopped_by outcome)) (λ files. Follows ((run >>= next) files) files old new (stopped_by outcome))
+    follows = if_told old.holds (λ files. Follows (run files) files old new (stopped_by outcome)) (λ files. Follows ((run >>= next) files) files old new (stopped_by outcome))
         (λ files f. stopped (run files).events (run files).end (λ x. next x (applied (puts_of (run files).events) files)) files old new outcome f) m.follows;
   }
 
@@ -164,7 +164,7 @@ module _ {X Y E : Type 0} (why : E → Why) (run : Run (Result X E)) (next : X �
   meets_on old mid new x outcome m n = record {
     later = no_count_fell old mid new m.later n.later;
     cause = cause_later (why_by why) old mid new outcome m.later n.cause;
-    follows = told old.holds (λ files. Follows (run files) files old mid (CameTo (Ok x))) (λ files. Follows ((run >>= next) files) files old new outcome)
+    follows = if_told old.holds (λ files. Follows (run files) files old mid (CameTo (Ok x))) (λ files. Follows ((run >>= next) files) files old new outcome)
         (λ files f. went_on old mid new x outcome files n.follows f) m.follows;
   }
 
@@ -219,7 +219,7 @@ module _ {X : Type 0} (why : X → Why) where
   meets_forgotten run old new outcome m = record {
     later = m.later;
     cause = tt;
-    follows = told old.holds (λ files. Follows (run files) files old new outcome) (λ files. Follows (run files) files old new (CutOff NoMemory))
+    follows = if_told old.holds (λ files. Follows (run files) files old new outcome) (λ files. Follows (run files) files old new (CutOff NoMemory))
         (λ files f. forgotten (run files) files old new outcome f) m.follows;
   }
 
@@ -237,13 +237,13 @@ module _ {E : Type 0} (why : E → Why) (missing too_long : List ℕ → E) (nam
   -- the folder gave the bytes
   pub meets_read : (bytes : List ℕ) → IsFound old name limit bytes → Meets (why_by why) (reading missing too_long name limit) old new (CameTo (Ok bytes))
   meets_read bytes found = meets_read_by (Ok bytes) tt
-      (told old.holds (λ files. get files name ≡ Some bytes) (λ files. Ok bytes ≡ within_limit (missing name) (too_long name) limit (get files name))
+      (if_told old.holds (λ files. get files name ≡ Some bytes) (λ files. Ok bytes ≡ within_limit (missing name) (too_long name) limit (get files name))
       (λ files f. sym (ap (within_limit (missing name) (too_long name) limit) f ∙ ap (λ b. cond b (Ok bytes) (Err (too_long name))) (le-leb (length bytes) limit found.short))) found.held)
 
   -- there is no file of that name
   pub meets_absent : why (missing name) ≡ ByAbsence → ReadRefused old new name limit Absent → Meets (why_by why) (reading missing too_long name limit) old new (CameTo (Err (missing name)))
   meets_absent is r = meets_read_by (Err (missing name)) (subst (RoseBy old new) (sym is) r.0)
-      (told old.holds (λ files. get files name ≡ None) (λ files. Err (missing name) ≡ within_limit (missing name) (too_long name) limit (get files name))
+      (if_told old.holds (λ files. get files name ≡ None) (λ files. Err (missing name) ≡ within_limit (missing name) (too_long name) limit (get files name))
       (λ files f. sym (ap (within_limit (missing name) (too_long name) limit) f)) r.1)
 
   long_file : (o : Option (List ℕ)) → IsSomeAnd o (λ bytes. limit < length bytes) → Err (too_long name) ≡ within_limit (missing name) (too_long name) limit o
@@ -253,7 +253,7 @@ module _ {E : Type 0} (why : E → Why) (missing too_long : List ℕ → E) (nam
   -- the file is longer than the limit
   pub meets_long : why (too_long name) ≡ ByLength → ReadRefused old new name limit TooLong → Meets (why_by why) (reading missing too_long name limit) old new (CameTo (Err (too_long name)))
   meets_long is r = meets_read_by (Err (too_long name)) (subst (RoseBy old new) (sym is) r.0)
-      (told old.holds (λ files. IsSomeAnd (get files name) (λ bytes. limit < length bytes)) (λ files. Err (too_long name) ≡ within_limit (missing name) (too_long name) limit (get files name))
+      (if_told old.holds (λ files. IsSomeAnd (get files name) (λ bytes. limit < length bytes)) (λ files. Err (too_long name) ≡ within_limit (missing name) (too_long name) limit (get files name))
       (λ files f. long_file (get files name) f) r.1)
 
   -- the read failed
@@ -283,7 +283,7 @@ module _ {E : Type 0} (why : E → Why) (name bytes : List ℕ) (old new : Folde
   meets_put_failed r = record {
     later = k.later;
     cause = r.0;
-    follows = told old.holds (λ files. DidUpTo files old new (Put name bytes ∷ []) [] (Put name bytes ∷ [])) (λ files. IsCutAt (Put name bytes ∷ []) files old new (WriteFault name))
+    follows = if_told old.holds (λ files. DidUpTo files old new (Put name bytes ∷ []) [] (Put name bytes ∷ [])) (λ files. IsCutAt (Put name bytes ∷ []) files old new (WriteFault name))
         (λ files d. ([], [], bytes, d)) (not_put old.holds r.1.others r.1.puts);
   }
 
@@ -292,7 +292,7 @@ module _ {E : Type 0} (why : E → Why) (name bytes : List ℕ) (old new : Folde
   meets_put_no_memory r = record {
     later = k.later;
     cause = tt;
-    follows = told old.holds (λ files. DidUpTo files old new (Put name bytes ∷ []) [] (Put name bytes ∷ [])) (λ files. IsCutAt (Put name bytes ∷ []) files old new NoMemory)
+    follows = if_told old.holds (λ files. DidUpTo files old new (Put name bytes ∷ []) [] (Put name bytes ∷ [])) (λ files. IsCutAt (Put name bytes ∷ []) files old new NoMemory)
         (λ files d. ([], Put name bytes ∷ [], d)) (not_put old.holds r.others r.puts);
   }
 
@@ -304,7 +304,7 @@ module _ {X Y : Type 0} (why : X → Why) (why' : Y → Why) (f : X → Y) (same
   meets_end_as run old new (CameTo end) m = record {
     later = m.later;
     cause = subst (RoseBy old new) (sym (same end)) m.cause;
-    follows = told old.holds (λ files. Follows (run files) files old new (CameTo end)) (λ files. Follows (end_as f run files) files old new (CameTo (f end))) (λ files g. (ap f g.0, g.1)) m.follows;
+    follows = if_told old.holds (λ files. Follows (run files) files old new (CameTo end)) (λ files. Follows (end_as f run files) files old new (CameTo (f end))) (λ files g. (ap f g.0, g.1)) m.follows;
   }
   meets_end_as run old new (CutOff fault) m = record { later = m.later; cause = m.cause; follows = m.follows }
 
@@ -317,7 +317,7 @@ module _ {X E : Type 0} (why : E → Why) (run : Run (Result X E)) (last : Resul
   meets_afterwards old mid new end m n = record {
     later = no_count_fell old mid new m.later n.later;
     cause = rose_by_earlier old mid new (why_by why end) n.later m.cause;
-    follows = told old.holds (λ files. Follows (run files) files old mid (CameTo end)) (λ files. Follows (afterwards run last files) files old new (CameTo end)) (λ files f. both files f) m.follows;
+    follows = if_told old.holds (λ files. Follows (run files) files old mid (CameTo end)) (λ files. Follows (afterwards run last files) files old new (CameTo end)) (λ files f. both files f) m.follows;
   }
     where
       both : (files : Files) → Follows (run files) files old mid (CameTo end) → Follows (afterwards run last files) files old new (CameTo end)
@@ -338,7 +338,7 @@ module _ {X E : Type 0} (why : E → Why) (run : Run (Result X E)) (last : Resul
   meets_cut_off old new fault m = record {
     later = m.later;
     cause = m.cause;
-    follows = told old.holds (λ files. IsCutAt (run files).events files old new fault) (λ files. Follows (afterwards run last files) files old new (CutOff fault)) (λ files f. cut files f) m.follows;
+    follows = if_told old.holds (λ files. IsCutAt (run files).events files old new fault) (λ files. Follows (afterwards run last files) files old new (CutOff fault)) (λ files f. cut files f) m.follows;
   }
     where
       cut : (files : Files) → IsCutAt (run files).events files old new fault → Follows (afterwards run last files) files old new (CutOff fault)
@@ -359,7 +359,7 @@ module _ {X E : Type 0} (why : E → Why) (run : Run (Result X E)) (last : Resul
   meets_last_stop old mid new end outcome m n = record {
     later = no_count_fell old mid new m.later n.later;
     cause = same_cause (Unit {0}) X why old new outcome (cause_later (why_by why) old mid new (stopped_by outcome) m.later n.cause);
-    follows = told old.holds (λ files. Follows (run files) files old mid (CameTo end)) (λ files. Follows (afterwards run last files) files old new (stopped_by outcome)) (λ files f. second_ended files f) m.follows;
+    follows = if_told old.holds (λ files. Follows (run files) files old mid (CameTo end)) (λ files. Follows (afterwards run last files) files old new (stopped_by outcome)) (λ files f. second_ended files f) m.follows;
   }
     where
       second_ended : (files : Files) → Follows (run files) files old mid (CameTo end) → Follows (afterwards run last files) files old new (stopped_by outcome)
@@ -377,7 +377,7 @@ pub meets_after_read : {X : Type 0} (why : X → Why) (run : Run X) (old mid new
 meets_after_read {X} why run old mid new outcome k m = record {
   later = no_count_fell old mid new k.later m.later;
   cause = cause_later why old mid new outcome k.later m.cause;
-  follows = told old.holds (λ files. Follows (run files) files mid new outcome) (λ files. Follows (run files) files old new outcome) (λ files f. kept (run files) files outcome f)
+  follows = if_told old.holds (λ files. Follows (run files) files mid new outcome) (λ files. Follows (run files) files old new outcome) (λ files f. kept (run files) files outcome f)
       (subst (λ h. IfSome h (λ files. Follows (run files) files mid new outcome)) k.holds m.follows);
 }
   where

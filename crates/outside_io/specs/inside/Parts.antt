@@ -2,7 +2,7 @@
 use Rattle.std.specs.Prelude.{◌≡◌, Ok, Err, Result, ⊤}
 use Rattle.outside_io.specs.State.{FolderState}
 use Rattle.outside_io.specs.Events.{Run}
-use Rattle.outside_io.specs.Causes.{Fault, ReadFault, WriteFault, NoMemory, Outcome, CameTo, CutOff, Why, ByContents}
+use Rattle.outside_io.specs.Causes.{ReadFault, WriteFault, NoMemory, Outcome, CameTo, CutOff, Why, ByContents}
 use Rattle.outside_io.specs.Met.{Meets}
 
 -- a result, with its value as definitions see it

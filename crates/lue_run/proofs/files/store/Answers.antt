@@ -1,10 +1,11 @@
 -- A put that failed.
-use Rattle.std.proofs.Common.{ap, subst}
-use Rattle.outside_io.specs.Course.{WriteFault}
-use Rattle.outside_io.specs.Ends.{PutRefused}
-use Rattle.outside_io.proofs.Steps.{meets_put_failed}
-use Rattle.lue_run.specs.declared.ended.SessionEnd.TheVariants.{FolderWriteFault}
-use Rattle.lue_run.specs.Ends.{way}
+use Rattle.std.proofs.Common.{sym, subst}
+use Rattle.outside_io.specs.Refusals.{PutRefused}
+use Rattle.outside_io.specs.Runs.{putting}
+use Rattle.outside_io.specs.Causes.{CutOff, WriteFault, why_by}
+use Rattle.outside_io.specs.Met.{Meets}
+use Rattle.outside_io.proofs.Callers.{meets_put_failed}
+use Rattle.lue_run.specs.Ends.{why}
 use Rattle.lue_run.proofs.files.store.Goals as goal
 
 pub returns-in-Failed : goal.returns-in-Failed
@@ -12,7 +13,7 @@ returns-in-Failed g c =
     let state = g.F.Folder.state in
     let old = state c.args.folder.now in
     let new = state c.put.new.self in
-    meets_put_failed way c.args.name.now c.args.bytes.now old new c.in-Err.ensures.keeps (FolderWriteFault c.in-Ok.word)
-    (ap WriteFault c.in-Ok.ensures)
+    subst (λ word. Meets (why_by why) (putting c.args.name.now c.args.bytes.now) old new (CutOff (WriteFault word))) (sym c.in-Ok.ensures)
+    (meets_put_failed why c.args.name.now c.args.bytes.now old new c.in-Err.ensures.keeps
     (subst (PutRefused old new c.args.name.now) c.in-Failed.is
-    (subst (λ n. PutRefused old new n c.in-Err.end) c.bytes.ensures c.in-Err.ensures.answer))
+    (subst (λ n. PutRefused old new n c.in-Err.end) c.bytes.ensures c.in-Err.ensures.answer)))

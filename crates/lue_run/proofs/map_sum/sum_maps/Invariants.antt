@@ -1,6 +1,6 @@
 use Rattle.std.proofs.Common.{◌≡◌, drop, vec_len}
-use Rattle.lue_run.specs.MapSum.{sums_from}
-use Rattle.lue_run.proofs.Sums.{behind}
+use Rattle.lue_run.specs.inside.Sums.{sums_from}
+use Rattle.lue_run.proofs.MapSumLemmas.{behind}
 use Rattle.lue_run.proofs.map_sum.sum_maps.Given as goal
 
 -- the sums so far and those of the cells that are left are the sums of all

@@ -1,5 +1,5 @@
 -- The law, from the sums counted from 0.
-use Rattle.lue_run.proofs.Sums.{sums_all, first_over}
+use Rattle.lue_run.proofs.MapSumLemmas.{sums_all, first_over}
 use Rattle.lue_run.proofs.map_sum.sums_are_those_of_cells.Goals as goal
 
 pub returns-clause-sum : goal.returns-clause-sum

@@ -14,8 +14,8 @@ pub record IsSized (grid : Grid) : Type 0 where
   pub count : length grid.cells ≡ grid.rows * grid.cols
 
 -- the files that these words name
-abbrev pub view : code.SumFiles → SumFiles
-view files = record { first = files.first.now; second = files.second.now; target = files.target.now }
+abbrev pub files_named : code.SumFiles → SumFiles
+files_named files = record { first = files.first.now; second = files.second.now; target = files.target.now }
 
 -- the end at this input, which is not as it is to be, or want of memory
 abbrev pub IsInput : List ℕ → InputKind → SessionEnd → Type 0

@@ -4,14 +4,15 @@ use Rattle.std.specs.Prelude.{Ok, Err, Result, map}
 use Rattle.cell_values.specs.declared.cell.Cell.{Cell}
 use Rattle.cell_values.specs.declared.cell.Over as no_cell
 use Rattle.cell_values.specs.Arithmetic.{sum_of}
-use Rattle.lue_run.specs.MapSum.{IsFirstOver, sums_at, sums_from, with_cell}
+use Rattle.lue_run.specs.MapSum.{IsFirstOver, sums_at}
+use Rattle.lue_run.specs.inside.Sums.{sums_from, cell_before}
 
 -- cells in front of what comes out for the cells behind them
 abbrev pub behind : List Cell → Result (List Cell) ℕ → Result (List Cell) ℕ
 behind front (Ok cells) = Ok (front ++ cells)
 behind front (Err place) = Err place
 
-pub one_more : (front : List Cell) (place : ℕ) (cell : Cell) (rest : Result (List Cell) ℕ) → behind front (with_cell place (Ok cell) rest) ≡ behind (front ++ cell ∷ []) rest
+pub one_more : (front : List Cell) (place : ℕ) (cell : Cell) (rest : Result (List Cell) ℕ) → behind front (cell_before place (Ok cell) rest) ≡ behind (front ++ cell ∷ []) rest
 one_more front place cell (Ok cells) = ap Ok (sym (append_assoc front (cell ∷ []) cells))
 one_more front place cell (Err later) = refl
 
@@ -24,7 +25,7 @@ same_err : (m n : ℕ) (r : Result (List Cell) ℕ) → r ≡ Err m → r ≡ Er
 same_err m n r d e = cc
 
 sum_here : (n : ℕ) (s : Result Cell no_cell.Over) (r : Result (List Cell) ℕ) (rest : List (Result Cell no_cell.Over)) (cells : List Cell)
-    → ((xs : List Cell) → r ≡ Ok xs → rest ≡ map Ok xs) → with_cell n s r ≡ Ok cells → s ∷ rest ≡ map Ok cells
+    → ((xs : List Cell) → r ≡ Ok xs → rest ≡ map Ok xs) → cell_before n s r ≡ Ok cells → s ∷ rest ≡ map Ok cells
 sum_here n (Err o) r rest cells more e = absurd (cc)
 sum_here n (Ok c) (Ok xs) rest cells more e = ap (λ ys. Ok c ∷ ys) (more xs refl) ∙ ap (map Ok) (same_ok (c ∷ xs) cells (Ok (c ∷ xs)) refl e)
 sum_here n (Ok c) (Err p) rest cells more e = absurd (cc)
@@ -39,7 +40,7 @@ abbrev FirstFrom : ℕ → List (Result Cell no_cell.Over) → ℕ → Type 0
 FirstFrom n sums place = (k : ℕ) × IsFirstOver sums k × (n + k ≡ place)
 
 over_here : (n : ℕ) (s : Result Cell no_cell.Over) (r : Result (List Cell) ℕ) (rest : List (Result Cell no_cell.Over)) (place : ℕ)
-    → ((p : ℕ) → r ≡ Err p → FirstFrom (n + 1) rest p) → with_cell n s r ≡ Err place → FirstFrom n (s ∷ rest) place
+    → ((p : ℕ) → r ≡ Err p → FirstFrom (n + 1) rest p) → cell_before n s r ≡ Err place → FirstFrom n (s ∷ rest) place
 over_here n (Err o) r rest place more e = (0, record { before = []; after = rest; over = o; parts = refl; at = refl }, omega (arith, same_err n place (Err n) refl e))
 over_here n (Ok c) (Ok xs) rest place more e = absurd (cc)
 over_here n (Ok c) (Err p) rest place more e =

@@ -1,0 +1,111 @@
+-- What a call answers, from what it came to and what it told of this.
+use Rattle.std.proofs.Common.{◌⊎◌, inl, inr, ◌≡◌, refl, sym, ap, subst, ◌∙◌}
+use Rattle.std.specs.Prelude.{None}
+use Rattle.outside_io.specs.State.{WroteFront, Wrote}
+use Rattle.outside_io.specs.Causes.{Outcome, CameTo, CutOff, ReadFault, WriteFault, NoMemory}
+use Rattle.outside_io.specs.Met.{Follows}
+use Rattle.outside_io.proofs.Callers.{if_told, meets_forgotten}
+use Rattle.lue_run.specs.declared.ended.Ended.{Ended}
+use Rattle.lue_run.specs.declared.ended.Ended.TheVariants as top
+use Rattle.lue_run.specs.Words.{command_of}
+use Rattle.lue_run.specs.Ends.{CourseEnd, Usage, OfScript, Done, Missing, TooLong, Unbuilt, Input, Overflow, why_of, end_answer, answer_for}
+use Rattle.lue_run.specs.Lines.{line_of, status_of}
+use Rattle.lue_run.specs.Course.{course}
+use Rattle.lue_run.specs.Answers.{Call, CameOut, HasLine, IsComplete, IsRefused, IsShown, IsVerdict, IsVerdictKind, IsVerdictOver, IsWritten, KeepsCounts, NoFault}
+use Rattle.lue_run.specs.inside.Top.{AnswersSo, Tells}
+
+-- ---- by how the run of the call came out
+
+module _ (call : Call) where
+  -- the end of the course is the verdict
+  verdict_at : (end : CourseEnd) → CameOut call (CameTo end) → IsVerdict call (end_answer end)
+  verdict_at end m = if_told call.before.holds (λ files. Follows (course call.words files) files call.before call.after (CameTo end)) (IsVerdictOver call (end_answer end))
+      (λ files f. record { answer = ap end_answer f.0; puts = f.1.puts; holds = f.1.holds }) m.follows
+
+  verdict_of : (outcome : Outcome CourseEnd) → CameOut call outcome → IsVerdictKind (answer_for outcome) → IsVerdict call (answer_for outcome)
+  verdict_of (CameTo end) m kind = verdict_at end m
+  verdict_of (CutOff (ReadFault name)) m kind = absurd kind
+  verdict_of (CutOff (WriteFault name)) m kind = absurd kind
+  verdict_of (CutOff NoMemory) m kind = absurd kind
+
+  shown_of : (outcome : Outcome CourseEnd) → (answer_for outcome ≡ top.Usage → command_of call.words ≡ None) → CameOut call outcome → IsShown call (answer_for outcome)
+  shown_of (CameTo Usage) usage m = usage refl
+  shown_of (CameTo (OfScript (Done files steps))) usage m = tt
+  shown_of (CameTo (OfScript (Missing name))) usage m = m.cause
+  shown_of (CameTo (OfScript (TooLong name))) usage m = m.cause
+  shown_of (CameTo (OfScript (Unbuilt name))) usage m = tt
+  shown_of (CameTo (OfScript (Input name kind))) usage m = tt
+  shown_of (CameTo (OfScript (Overflow at))) usage m = tt
+  shown_of (CutOff (ReadFault name)) usage m = m
+  shown_of (CutOff (WriteFault name)) usage m = m
+  shown_of (CutOff NoMemory) usage m = m
+
+  complete_of : NoFault call → (outcome : Outcome CourseEnd) → CameOut call outcome → Wrote call.sink_before call.sink_after (line_of (answer_for outcome)) → IsComplete call (answer_for outcome)
+  complete_of none (CameTo end) m w = inr (verdict_at end m, w)
+  complete_of none (CutOff (ReadFault name)) m w = absurd (none.reads m.cause)
+  complete_of none (CutOff (WriteFault name)) m w = absurd (none.puts m.cause)
+  complete_of none (CutOff NoMemory) m w = inl refl
+
+  written_of : (end : Ended) → Wrote call.sink_before call.sink_after (line_of end) → IsWritten call end
+  written_of (top.OutFault instead) w = tt
+  written_of end w = w
+
+-- ---- by what was told of it
+
+module _ (call : Call) (answer : Ended) (a : AnswersSo call.words call.before call.after call.sink_before call.sink_after answer) where
+  said : (answer ≡ a.end) → answer ≡ answer_for a.comes.outcome
+  said is = is ∙ a.comes.is
+
+  pub verdict_told : IsVerdictKind answer → IsVerdict call answer
+  verdict_told = by a.tells
+    where
+      by : Tells a.end call.sink_before call.sink_after answer → IsVerdictKind answer → IsVerdict call answer
+      by (inl t) kind = subst (IsVerdict call) (sym (said t.0)) (verdict_of call a.comes.outcome a.comes.came (subst IsVerdictKind (said t.0) kind))
+      by (inr (inl t)) kind = absurd (subst IsVerdictKind t.0 kind)
+      by (inr (inr t)) kind = absurd (subst IsVerdictKind t.1 kind)
+
+  pub shown_told : IsShown call answer
+  shown_told = by a.tells
+    where
+      by : Tells a.end call.sink_before call.sink_after answer → IsShown call answer
+      by (inl t) = subst (IsShown call) (sym (said t.0)) (shown_of call a.comes.outcome (λ is. a.comes.usage (a.comes.is ∙ is)) a.comes.came)
+      by (inr (inl t)) = subst (IsShown call) (sym t.0) (meets_forgotten why_of (course call.words) call.before call.after a.comes.outcome a.comes.came)
+      by (inr (inr t)) = subst (IsShown call) (sym t.1) (record {
+        outcome = a.comes.outcome;
+        came = a.comes.came;
+        has_line = subst HasLine a.comes.is t.2.has_line;
+        status = subst (λ end. t.0 ≡ status_of end) a.comes.is t.2.status;
+        rose = t.2.rose;
+        front = subst (λ end. WroteFront call.sink_before call.sink_after (line_of end)) a.comes.is t.2.front;
+      })
+
+  pub written_told : IsWritten call answer
+  written_told = by a.tells
+    where
+      by : Tells a.end call.sink_before call.sink_after answer → IsWritten call answer
+      by (inl t) = subst (IsWritten call) (sym t.0) (written_of call a.end t.1)
+      by (inr (inl t)) = subst (IsWritten call) (sym t.0) t.1
+      by (inr (inr t)) = subst (IsWritten call) (sym t.1) tt
+
+  pub complete_told : NoFault call → IsComplete call answer
+  complete_told none = by a.tells
+    where
+      by : Tells a.end call.sink_before call.sink_after answer → IsComplete call answer
+      by (inl t) = subst (IsComplete call) (sym (said t.0))
+          (complete_of call none a.comes.outcome a.comes.came (subst (λ end. Wrote call.sink_before call.sink_after (line_of end)) a.comes.is t.1))
+      by (inr (inl t)) = inl t.0
+      by (inr (inr t)) = absurd (none.writes t.2.rose)
+
+  pub refused_told : command_of call.words ≡ None → IsRefused call answer
+  refused_told none = record { untouched = a.comes.untouched none; said = by a.tells }
+    where
+      usage : a.end ≡ top.Usage
+      usage = a.comes.refused none
+
+      by : Tells a.end call.sink_before call.sink_after answer → (answer ≡ top.Usage) ⊎ (answer ≡ top.OutFault (status_of top.Usage)) ⊎ (answer ≡ top.Memory)
+      by (inl t) = inl (t.0 ∙ usage)
+      by (inr (inl t)) = inr (inr t.0)
+      by (inr (inr t)) = inr (inl (t.1 ∙ ap top.OutFault (subst (λ end. t.0 ≡ status_of end) usage t.2.status)))
+
+  pub counts_told : KeepsCounts call
+  counts_told = record { folder = a.comes.came.later; sink = a.later }

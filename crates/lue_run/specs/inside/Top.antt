@@ -1,0 +1,42 @@
+-- What the parts of a top call answer.
+use Rattle.std.specs.Prelude.{◌≡◌, ◌⊎◌, ◌≤◌, List, ℕ, [], None}
+use Rattle.outside_io.specs.State.{FolderState, SinkState, Rose, Wrote, WroteFront}
+use Rattle.outside_io.specs.Causes.{Outcome}
+use Rattle.outside_io.specs.Met.{Meets}
+use Rattle.lue_run.specs.declared.ended.Ended.{Ended}
+use Rattle.lue_run.specs.declared.ended.Ended.TheVariants.{Usage, OutFault, Memory}
+use Rattle.lue_run.specs.Ends.{CourseEnd, why_of, answer_for}
+use Rattle.lue_run.specs.Lines.{line_of, status_of}
+use Rattle.lue_run.specs.Course.{course}
+use Rattle.lue_run.specs.Words.{command_of}
+use Rattle.lue_run.specs.Answers.{HasLine}
+
+-- what the words came to before their line
+pub record ComesTo (words : List (List ℕ)) (old new : FolderState) (end : Ended) : Type 0 where
+  pub outcome : Outcome CourseEnd
+  pub is : end ≡ answer_for outcome
+  pub came : Meets why_of (course words) old new outcome
+  pub untouched : command_of words ≡ None → new ≡ old
+  pub refused : command_of words ≡ None → end ≡ Usage
+  pub usage : end ≡ Usage → command_of words ≡ None
+
+-- the line of an end could not be written whole
+pub record Unwritten (end : Ended) (old new : SinkState) (instead : ℕ) : Type 0 where
+  pub has_line : HasLine end
+  pub status : instead ≡ status_of end
+  pub rose : Rose old.faults new.faults
+  pub front : WroteFront old new (line_of end)
+
+-- what is told of an end: its line and nothing else; or, for want of memory, nothing; or a front of its line, and its status
+abbrev pub Tells : Ended → SinkState → SinkState → Ended → Type 0
+Tells end old new answer =
+    ((answer ≡ end) × Wrote old new (line_of end))
+    ⊎ ((answer ≡ Memory) × Wrote old new [])
+    ⊎ ((instead : ℕ) × (answer ≡ OutFault instead) × Unwritten end old new instead)
+
+-- what is answered: the words came to an end, and that is told
+pub record AnswersSo (words : List (List ℕ)) (old new : FolderState) (out_old out_new : SinkState) (answer : Ended) : Type 0 where
+  pub end : Ended
+  pub comes : ComesTo words old new end
+  pub tells : Tells end out_old out_new answer
+  pub later : out_old.faults ≤ out_new.faults
