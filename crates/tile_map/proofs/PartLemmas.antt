@@ -1,0 +1,62 @@
+-- Parts of an operation.
+use Rattle.std.proofs.Common.{◌≡◌, ℕ, zero, suc, ◌<◌, List, refl, sym, ap, subst, ◌∙◌, arith, inl, inr}
+use Rattle.std.specs.Prelude.{Option, Some, None, Ok, Err, IsOk, IsErr}
+use Rattle.std.proofs.lemmas.Bool.{cases_eq, cases_order}
+use Rattle.std.proofs.lemmas.List.{same_lists, get_or_default}
+use Rattle.std.proofs.lemmas.List.FromFn.{length-map-range_with_len, get_or-map-range_with_len}
+use Rattle.cell_values.specs.declared.cell.Cell.{Cell}
+use Rattle.cell_values.specs.declared.cell.Cell.TheVariants.{Mv}
+use Rattle.tile_map.specs.declared.part.Part.{Part}
+use Rattle.tile_map.specs.Parts.{IsPart, Outcome, TellsFirstOver, first_over, or_missing, or_over_at, part_of}
+use Rattle.tile_map.specs.Laws.{MarkTheirOvers}
+
+-- an outcome is a cell or Over, and not both
+not_both : (o : Outcome) → IsOk o → IsErr o → ⊥
+not_both (Ok cell) ok err = cc
+not_both (Err over) ok err = cc
+
+-- one more place
+more : (outcome : ℕ → Outcome) (n : ℕ) (o : Outcome) (found : Option ℕ) → outcome n ≡ o → TellsFirstOver outcome n found → TellsFirstOver outcome (suc n) (or_over_at n o found)
+more outcome n o (Some first) e (below, over, before) = (omega arith, over, before)
+more outcome n (Ok cell) None e none = λ place less. elim (cases_eq place n) as (λ x. IsOk (outcome place)) [
+  | inl same ↦ subst (λ (p : ℕ). IsOk (outcome p)) (sym same) (subst IsOk (sym e) refl)
+  | inr other ↦ none place (omega arith)
+]
+more outcome n (Err over) None e none = (omega arith, subst IsErr (sym e) refl, none)
+
+pub tells-first_over : (outcome : ℕ → Outcome) (n : ℕ) → TellsFirstOver outcome n (first_over outcome n)
+tells-first_over outcome zero = λ place less. absurd (omega arith)
+tells-first_over outcome (suc n) = more outcome n (outcome n) (first_over outcome n) refl (tells-first_over outcome n)
+
+-- there is one first Over
+one_first : (outcome : ℕ → Outcome) (n : ℕ) (a b : Option ℕ) → TellsFirstOver outcome n a → TellsFirstOver outcome n b → a ≡ b
+one_first outcome n None None f h = refl
+one_first outcome n None (Some q) f h = absurd (not_both (outcome q) (f q h.0) h.1)
+one_first outcome n (Some p) None f h = absurd (not_both (outcome p) (h p f.0) f.1)
+one_first outcome n (Some p) (Some q) f h = elim (cases_order p q) as (λ x. Some p ≡ Some q) [
+  | inl e ↦ ap Some e
+  | inr (inl less) ↦ absurd (not_both (outcome p) (h.2 p less) f.1)
+  | inr (inr less) ↦ absurd (not_both (outcome q) (f.2 q less) h.1)
+]
+
+is_part-part_of : (outcome : ℕ → Outcome) (places : ℕ) → IsPart outcome places (part_of outcome places)
+is_part-part_of outcome places = record {
+  size = length-map-range_with_len (λ place. or_missing (outcome place)) 0 places;
+  cells = λ place below. get_or-map-range_with_len (λ place. or_missing (outcome place)) 0 places place place Mv below (omega arith);
+  over = tells-first_over outcome places;
+}
+
+pub marks_its_overs : MarkTheirOvers
+marks_its_overs outcome places part = (
+  (λ is.
+      let value = part_of outcome places in
+      let made = is_part-part_of outcome places in
+      let cells : part.cells ≡ value.cells =
+      same_lists part.cells value.cells (is.size ∙ sym made.size)
+      (λ k d below.
+      let b : k < places = subst (λ (n : ℕ). k < n) is.size below in
+      get_or_default part.cells k d Mv below ∙ (is.cells k b ∙ (sym (made.cells k b) ∙ get_or_default value.cells k Mv d (subst (λ (n : ℕ). k < n) (sym made.size) b)))) in
+      ap (λ (xs : List Cell). let p : Part = record { cells = xs; over = part.over } in p) cells
+      ∙ ap (λ (o : Option ℕ). let p : Part = record { cells = value.cells; over = o } in p) (one_first outcome places part.over value.over is.over made.over)),
+  (λ e. subst (IsPart outcome places) (sym e) (is_part-part_of outcome places)),
+)

@@ -1,0 +1,9 @@
+pub mod Args
+pub mod Cuts
+pub mod Laws
+pub mod Limits
+pub mod Parts
+pub mod Pastes
+pub mod Rects
+pub mod Sides
+pub mod Tiles
