@@ -9,7 +9,7 @@ use Rattle.std.proofs.lemmas.List.FromFn.{length-map-range_with_len, get_or-map-
 use Rattle.cell_values.specs.declared.cell.Cell.{Cell}
 use Rattle.cell_values.specs.declared.cell.Cell.TheVariants.{Mv}
 use Rattle.std.specs.Int.{div_ceil}
-use Rattle.tile_map.specs.Limits.{most_cells}
+use Rattle.text_base.specs.Limits.{most_cells}
 use Rattle.tile_map.specs.declared.rect.Rect.{Rect}
 use Rattle.tile_map.specs.declared.tiling.Tiling.{Tiling}
 use Rattle.tile_map.specs.Rects.{HoldsPlace, IsInMap, cell_count, number_in}

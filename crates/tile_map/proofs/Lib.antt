@@ -1,3 +1,4 @@
+pub mod Callers
 pub mod SideLemmas
 pub mod RectLemmas
 pub mod TileLemmas

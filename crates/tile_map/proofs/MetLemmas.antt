@@ -2,11 +2,12 @@
 use Rattle.std.proofs.Common.{◌≡◌, ℕ, ◌+◌, ◌*◌, ◌/◌, ◌%◌, ◌<◌, ◌≤◌, get_or, ap, subst, ◌∙◌, arith}
 use Rattle.std.specs.Int.{div_ceil}
 use Rattle.std.proofs.lemmas.Nat.{div-mul-add, mod-mul-add, div-add-mod', div_below, mul-le}
-use Rattle.tile_map.specs.Limits.{most_cells}
+use Rattle.text_base.specs.Limits.{most_cells}
 use Rattle.tile_map.specs.declared.rect.Rect.{Rect}
 use Rattle.tile_map.specs.declared.tiling.Tiling.{Tiling}
 use Rattle.tile_map.specs.Rects.{HasCells, HoldsPlace, IsInMap, cell_count, place_in}
-use Rattle.tile_map.specs.Tiles.{Intersects, across, down, rect_of, tile_at, tile_count, tiles_met, tiles_of}
+use Rattle.tile_map.specs.Tiles.{Intersects, across, down, rect_of, tile_at, tile_count}
+use Rattle.tile_map.specs.inside.Met.{tiles_met, tiles_of}
 use Rattle.tile_map.specs.Laws.{IsMet, ListTilesMet}
 use Rattle.tile_map.proofs.SideLemmas.{part_below, part_of_stretch, parts_few, parts_grow, place_of_part}
 use Rattle.tile_map.proofs.RectLemmas.{ascends_over_places, held_below, place_below, some_cols}

@@ -1,13 +1,12 @@
 -- Parts of an operation.
-use Rattle.std.proofs.Common.{◌≡◌, ℕ, zero, suc, ◌<◌, List, refl, sym, ap, subst, ◌∙◌, arith, inl, inr}
+use Rattle.std.proofs.Common.{◌≡◌, ℕ, zero, suc, ◌<◌, List, [], ◌∷◌, length, get_or, refl, sym, ap, subst, ◌∙◌, arith, inl, inr}
 use Rattle.std.specs.Prelude.{Option, Some, None, Ok, Err, IsOk, IsErr}
 use Rattle.std.proofs.lemmas.Bool.{cases_eq, cases_order}
-use Rattle.std.proofs.lemmas.List.{same_lists, get_or_default}
-use Rattle.std.proofs.lemmas.List.FromFn.{length-map-range_with_len, get_or-map-range_with_len}
+use Rattle.std.proofs.lemmas.List.{same_lists, get_or_append_left, get_or_default, get_or_push, length_push}
 use Rattle.cell_values.specs.declared.cell.Cell.{Cell}
 use Rattle.cell_values.specs.declared.cell.Cell.TheVariants.{Mv}
 use Rattle.tile_map.specs.declared.part.Part.{Part}
-use Rattle.tile_map.specs.Parts.{IsPart, Outcome, TellsFirstOver, first_over, or_missing, or_over_at, part_of}
+use Rattle.tile_map.specs.Parts.{IsPart, Outcome, TellsFirstOver, first_over, or_missing, or_over_at, part_of, tabulate}
 use Rattle.tile_map.specs.Laws.{MarkTheirOvers}
 
 -- an outcome is a cell or Over, and not both
@@ -39,10 +38,25 @@ one_first outcome n (Some p) (Some q) f h = elim (cases_order p q) as (λ x. Som
   | inr (inr less) ↦ absurd (not_both (outcome q) (f.2 q less) h.1)
 ]
 
-is_part-part_of : (outcome : ℕ → Outcome) (places : ℕ) → IsPart outcome places (part_of outcome places)
+-- a table has a value for each place
+pub length-tabulate : {A : Type 0} (f : ℕ → A) (places : ℕ) → length (tabulate f places) ≡ places
+length-tabulate f zero = refl
+length-tabulate f (suc places) = length_push (tabulate f places) (f places) ∙ (let e = length-tabulate f places in omega arith)
+
+pub get_or-tabulate : {A : Type 0} (f : ℕ → A) (places place : ℕ) (d : A) → place < places → get_or (tabulate f places) place d ≡ f place
+get_or-tabulate f zero place d below = absurd (omega arith)
+get_or-tabulate f (suc places) place d below = elim (cases_eq place places) as (λ x. get_or (tabulate f (suc places)) place d ≡ f place) [
+  | inl e ↦ get_or_push (tabulate f places) (f places) d place (length-tabulate f places ∙ sym e) ∙ ap f (sym e)
+  | inr other ↦
+      get_or_append_left (tabulate f places) (f places ∷ []) d place (let e = length-tabulate f places in omega arith)
+      ∙ get_or-tabulate f places place d (omega arith)
+]
+
+-- the part of the outcomes is what it is said to be
+pub is_part-part_of : (outcome : ℕ → Outcome) (places : ℕ) → IsPart outcome places (part_of outcome places)
 is_part-part_of outcome places = record {
-  size = length-map-range_with_len (λ place. or_missing (outcome place)) 0 places;
-  cells = λ place below. get_or-map-range_with_len (λ place. or_missing (outcome place)) 0 places place place Mv below (omega arith);
+  size = length-tabulate (λ place. or_missing (outcome place)) places;
+  cells = λ place below. get_or-tabulate (λ n. or_missing (outcome n)) places place Mv below;
   over = tells-first_over outcome places;
 }
 

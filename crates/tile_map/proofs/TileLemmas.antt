@@ -3,7 +3,7 @@ use Rattle.std.proofs.Common.{◌≡◌, ℕ, ◌+◌, ◌*◌, ◌/◌, ◌%◌
 use Rattle.std.specs.Int.{div_ceil}
 use Rattle.std.proofs.lemmas.Nat.{div-add-mod', div-mul-add, mod-mul-add, mod_below, div_below, mul-le, mul-add-lt}
 use Rattle.std.proofs.Math.Nat.{mul_comm}
-use Rattle.tile_map.specs.Limits.{most_cells}
+use Rattle.text_base.specs.Limits.{most_cells}
 use Rattle.tile_map.specs.declared.rect.Rect.{Rect}
 use Rattle.tile_map.specs.declared.tiling.Tiling.{Tiling}
 use Rattle.tile_map.specs.Rects.{HasCells, Holds, HoldsPlace, IsInMap}

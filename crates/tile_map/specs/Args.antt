@@ -19,7 +19,7 @@ HasPlace (One cell) place = ⊤
 HasPlace (Cells cells) place = place < length cells.now
 
 -- the operand is one over so many places
-abbrev pub Covers : Arg → ℕ → Type 0
-Covers Unused places = ⊤
-Covers (One cell) places = ⊤
-Covers (Cells cells) places = length cells.now ≡ places
+abbrev pub SpansPlaces : Arg → ℕ → Type 0
+SpansPlaces Unused places = ⊤
+SpansPlaces (One cell) places = ⊤
+SpansPlaces (Cells cells) places = length cells.now ≡ places

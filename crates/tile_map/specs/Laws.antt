@@ -3,10 +3,11 @@ use Rattle.std.specs.Prelude.{◌≡◌, ℕ, ◌<◌, ◌*◌, List, length, ge
 use Rattle.std.specs.List.{Contains}
 use Rattle.cell_values.specs.declared.cell.Cell.{Cell}
 use Rattle.tile_map.specs.Cuts.{cut_of, gathered}
-use Rattle.tile_map.specs.Parts.{Outcome, IsPart, part_of}
+use Rattle.tile_map.specs.Parts.{IsPart, Outcome, part_of}
 use Rattle.tile_map.specs.Pastes.{IsPastedOver}
 use Rattle.tile_map.specs.Rects.{HasCells, Holds, HoldsPlace, IsInMap, IsNear, cell_count, grown, number_in, places_of}
-use Rattle.tile_map.specs.Tiles.{EachMet, Intersects, rect_of, tile_count, tiles_of}
+use Rattle.tile_map.specs.Tiles.{EachMet, Intersects, rect_of, tile_count}
+use Rattle.tile_map.specs.inside.Met.{tiles_of}
 use Rattle.tile_map.specs.declared.part.Part.{Part}
 use Rattle.tile_map.specs.declared.rect.Rect.{Rect}
 use Rattle.tile_map.specs.declared.tiling.Tiling.{Tiling}

@@ -7,3 +7,4 @@ pub mod Pastes
 pub mod Rects
 pub mod Sides
 pub mod Tiles
+pub mod inside

@@ -1,5 +1,5 @@
 -- What an operation gives over some places: a cell or Over at each.
-use Rattle.std.specs.Prelude.{◌≡◌, ℕ, zero, suc, ◌<◌, map, length, Option, Some, None, Result, Ok, Err, IsOk, IsErr}
+use Rattle.std.specs.Prelude.{◌≡◌, ℕ, zero, suc, ◌<◌, List, [], ◌∷◌, ◌++◌, length, Option, Some, None, Result, Ok, Err, IsOk, IsErr}
 use Rattle.std.specs.List.{range_with_len}
 use Rattle.cell_values.specs.declared.cell.Cell.{Cell}
 use Rattle.cell_values.specs.declared.cell.Cell.TheVariants.{Mv}
@@ -28,6 +28,11 @@ pub record IsPart (outcome : ℕ → Outcome) (places : ℕ) (part : Part) : Typ
   pub cells : (place : ℕ) → place < places → cell_at part.cells place ≡ or_missing (outcome place)
   pub over : TellsFirstOver outcome places part.over
 
+-- the values of a function at so many places, counted from 0
+abbrev pub tabulate : {A : Type 0} → (ℕ → A) → ℕ → List A
+tabulate f zero = []
+tabulate f (suc places) = tabulate f places ++ f places ∷ []
+
 -- a place that was found before, or this one where its outcome is Over
 abbrev pub or_over_at : ℕ → Outcome → Option ℕ → Option ℕ
 or_over_at place outcome (Some first) = Some first
@@ -41,5 +46,4 @@ first_over outcome (suc places) = or_over_at places (outcome places) (first_over
 
 -- the part of the outcomes at so many places, as a value
 abbrev pub part_of : (ℕ → Outcome) → ℕ → Part
-part_of outcome places =
-    record { cells = map (λ place. or_missing (outcome place)) (range_with_len 0 places); over = first_over outcome places }
+part_of outcome places = record { cells = tabulate (λ place. or_missing (outcome place)) places; over = first_over outcome places }

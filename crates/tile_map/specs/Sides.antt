@@ -1,6 +1,7 @@
 -- The sides of a map and of its tiles.
 use Rattle.std.specs.Prelude.{ℕ, ◌≤◌, ◌<◌, ◌*◌}
-use Rattle.tile_map.specs.Limits.{longest_tile_side, most_cells}
+use Rattle.text_base.specs.Limits.{most_cells}
+use Rattle.tile_map.specs.Limits.{longest_tile_side}
 
 -- the sides of a map and of its tiles are within the limits
 pub record AreSides (rows cols tile_rows tile_cols : ℕ) : Type 0 where

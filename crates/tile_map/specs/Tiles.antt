@@ -1,7 +1,7 @@
 -- Tiles, which are numbered in row-major order.
-use Rattle.std.specs.Prelude.{ℕ, List, ◌<◌, ◌+◌, ◌-◌, ◌*◌, ◌/◌, ◌%◌, min}
+use Rattle.std.specs.Prelude.{ℕ, ◌<◌, ◌+◌, ◌-◌, ◌*◌, ◌/◌, ◌%◌, min}
 use Rattle.std.specs.Int.{div_ceil}
-use Rattle.tile_map.specs.Rects.{HoldsPlace, places_of}
+use Rattle.tile_map.specs.Rects.{HoldsPlace}
 use Rattle.tile_map.specs.declared.rect.Rect.{Rect}
 use Rattle.tile_map.specs.declared.tiling.Tiling.{Tiling}
 
@@ -41,14 +41,3 @@ pub record Intersects (g : Tiling) (r : Rect) (tile : ℕ) : Type 0 where
 -- it is so of each tile that has a place in common with the rectangle
 abbrev pub EachMet : Tiling → Rect → (ℕ → Type 0) → Type 0
 EachMet g r P = (tile : ℕ) → tile < tile_count g → Intersects g r tile → P tile
-
--- the tiles that a rectangle with cells meets, as a rectangle of tiles
-unfoldable pub tiles_met : Tiling → Rect → Rect
-tiles_met g r =
-    let top = r.top / g.tile_rows in
-    let left = r.left / g.tile_cols in
-    record { top = top; left = left; rows = div_ceil (r.top + r.rows) g.tile_rows - top; cols = div_ceil (r.left + r.cols) g.tile_cols - left }
-
--- the tiles that a rectangle with cells meets, in ascending order
-abbrev pub tiles_of : Tiling → Rect → List ℕ
-tiles_of g r = places_of (across g) (tiles_met g r)

@@ -1,6 +1,6 @@
 ghost use Rattle.std.specs.Prelude.{◌+◌, ◌-◌, ◌≡◌, ◌≤◌, ◌<◌, ◌*◌, ◌/◌, ◌%◌, ◌++◌, ℕ, length, map, slice_range, IfOk, OnOk};
 ghost use Rattle.std.specs.List.{range_with_len};
-ghost use Rattle.tile_map.specs.Limits.{most_cells};
+ghost use Rattle.text_base.specs.Limits.{most_cells};
 ghost use Rattle.tile_map.specs.Rects.{HasCells, HoldsPlace, IsInMap, cell_count, grown, place_in};
 ghost use Rattle.tile_map.specs.Sides.{AreSides};
 
@@ -27,7 +27,8 @@ pub struct Tiling {
 impl Tiling {
     ghost use Rattle.tile_map.specs.Cuts.{cut_of, gathered, gathered_cell};
     ghost use Rattle.tile_map.specs.Pastes.{IsPasted};
-    ghost use Rattle.tile_map.specs.Tiles.{EachMet, across, down, rect_at, rect_of, tile_at, tile_count, tiles_met, tiles_of};
+    ghost use Rattle.tile_map.specs.Tiles.{EachMet, across, down, rect_at, rect_of, tile_at, tile_count};
+    ghost use Rattle.tile_map.specs.inside.Met.{tiles_met, tiles_of};
 
     /// The tiling of a map of this size into tiles of this size.
     pub fn new(rows: u32, cols: u32, tile_rows: u32, tile_cols: u32) -> Tiling
@@ -222,7 +223,7 @@ impl Tiling {
     }
 
     // The tiles that a rectangle meets, as a rectangle of tiles.
-    #[tactic(auto, unfolding(crate::specs::Tiles::tiles_met))]
+    #[tactic(auto, unfolding(crate::specs::inside::Met::tiles_met))]
     fn met(&self, rect: Rect) -> Rect
         requires rect { IsInMap self.now.rows self.now.cols rect }
         requires some { HasCells rect }

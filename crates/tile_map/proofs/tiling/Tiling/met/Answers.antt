@@ -1,4 +1,4 @@
-use Rattle.tile_map.specs.Tiles.{tiles_met}
+use Rattle.tile_map.specs.inside.Met.{tiles_met}
 use Rattle.tile_map.proofs.MetLemmas.{few_in_grid, met_inside}
 use Rattle.tile_map.proofs.tiling.Tiling.met.Goals as goal
 

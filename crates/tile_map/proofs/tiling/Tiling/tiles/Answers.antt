@@ -3,7 +3,8 @@ use Rattle.std.specs.List.{range_with_len}
 use Rattle.std.proofs.lemmas.List.FromFn.{map-range_with_len_more}
 use Rattle.tile_map.specs.declared.rect.Rect.{Rect}
 use Rattle.tile_map.specs.Rects.{cell_count, place_in, places_of}
-use Rattle.tile_map.specs.Tiles.{across, tiles_met}
+use Rattle.tile_map.specs.Tiles.{across}
+use Rattle.tile_map.specs.inside.Met.{tiles_met}
 use Rattle.tile_map.proofs.tiling.Tiling.tiles.Goals as goal
 
 pub loop-number-preserved : goal.loop-number-preserved

@@ -1,7 +1,8 @@
 use Rattle.std.proofs.Common.{◌≡◌, map}
 use Rattle.std.specs.List.{range_with_len}
 use Rattle.tile_map.specs.Rects.{place_in}
-use Rattle.tile_map.specs.Tiles.{across, tiles_met}
+use Rattle.tile_map.specs.Tiles.{across}
+use Rattle.tile_map.specs.inside.Met.{tiles_met}
 use Rattle.tile_map.proofs.tiling.Tiling.tiles.Given as goal
 
 -- the tiles before
