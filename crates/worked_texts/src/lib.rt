@@ -17,4 +17,6 @@ mod rounding;
 #[cfg(test)]
 mod scripts;
 #[cfg(test)]
+mod tokens;
+#[cfg(test)]
 mod values;
