@@ -36,13 +36,14 @@ $(libraries:%=proved-%): proved-%: $$(addprefix proved-,$$(call named_by,$$*))
 demo: $(PROGRAM)
 	@scripts/demo $(PROGRAM) examples/first-sum
 
-# The gate: every proof, must-fail edit, test and program, and then the project's own checks, of its definitions and of
-# the built program.
+# The gate: every proof, must-fail edit, test and program, and then the project's own checks: of its definitions, of its
+# documents and of the built program.
 test:
 	rt ci
 	@$(MAKE) --no-print-directory $(PROGRAM)
 	@scripts/check-names
 	@scripts/believed --check
+	@scripts/check-claims
 	@scripts/check-program $(PROGRAM)
 
 # Installs what was built, and builds nothing, so that root proves nothing.
