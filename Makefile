@@ -12,7 +12,7 @@ libraries := $(shell scripts/below $(name))
 named_by   = $(filter $(libraries),$(shell sed -n 's/^$(1)[^:]*: *//p' crates.txt))
 sources   := crates.txt $(shell find $(libraries:%=crates/%) crates/$(name) -name out -prune -o \( -name '*.rt' -o -name '*.antt' \) -print)
 
-.PHONY: build demo test install $(libraries:%=proved-%)
+.PHONY: build demo test bench install $(libraries:%=proved-%)
 
 build: $(PROGRAM)
 
@@ -45,6 +45,10 @@ test:
 	@scripts/believed --check
 	@scripts/check-claims
 	@scripts/check-program $(PROGRAM)
+
+# Times the program beside a small one in stock Rust, and writes docs/PERFORMANCE.md. No part of the gate.
+bench: $(PROGRAM)
+	@scripts/bench $(PROGRAM)
 
 # Installs what was built, and builds nothing, so that root proves nothing.
 install:
