@@ -42,6 +42,13 @@ class Definition:
         words = [word for word in BETWEEN.split(signature) if word]
         return words[0] if words else ""
 
+    def is_statement(self):
+        """Whether it is a statement of its own: a type without arguments."""
+        return re.search(r" : Type 0$", self.text[0]) is not None and self.name[0].isupper() and not self.is_record()
+
+    def is_record(self):
+        return re.match(r"(pub )?(record|data) ", self.text[0]) is not None
+
     def lines(self):
         return len(self.text)
 
