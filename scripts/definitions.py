@@ -61,8 +61,16 @@ class File:
         self.definitions, self.imports, self.aliases = [], {}, {}
         lines = path.read_text(encoding="utf-8").split("\n")
         read_imports("\n".join(lines), self.imports, self.aliases)
-        comment, current, in_import = [], None, False
+        comment, current, in_import, shared = [], None, False, None
         for number, line in enumerate(lines, 1):
+            # definitions that name each other stand two blanks to the right, behind a line `mutual`, and share its comment
+            if re.match(r"((abbrev|unfoldable) )?mutual$", line):
+                comment, current, shared = [], None, comment
+                continue
+            if line.strip() and not line[0].isspace():
+                shared = None
+            if shared is not None:
+                line = line[2:]
             if in_import or line.startswith(("use ", "pub use ", "pub mod ", "mod ")):
                 in_import = "}" not in line and (in_import or "{" in line)
                 comment, current = [], None
@@ -73,7 +81,7 @@ class File:
             elif line.startswith(("infix", "#")):
                 current = None
             elif not line[0].isspace() and self.begins(line, current):
-                current = Definition(crate, path, number, line, " ".join(comment).strip())
+                current = Definition(crate, path, number, line, " ".join(comment or shared or []).strip())
                 self.definitions.append(current)
                 comment = []
             elif current:
