@@ -3,4 +3,10 @@
 #![tactic(auto)]
 
 #[cfg(test)]
-mod tests;
+mod faults;
+#[cfg(test)]
+mod runs;
+#[cfg(test)]
+mod scant;
+#[cfg(test)]
+mod verdicts;
