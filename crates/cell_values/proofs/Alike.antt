@@ -9,9 +9,11 @@ use Rattle.std.specs.Str.Parse.{digits_value}
 use Rattle.std.proofs.lemmas.Nat.{pow-add, same_from_place}
 use Rattle.std.proofs.lemmas.Bool.{cases_lt, lt-ltb, le-ltb, eqb-true, eq-eqb}
 use Rattle.std.proofs.lemmas.List.{ext_get_or, get_or_past, length-replicate}
-use Rattle.cell_values.specs.Decimal.{Decimal, IsDecimal, decimal_of, are_digits, denominator, numerator, rise_of, size_of, with_sign}
-use Rattle.cell_values.specs.Reading.{HasSameValue, same_value}
-use Rattle.cell_values.specs.Parts.{IsWithin, digit_behind, is_zero}
+use Rattle.cell_values.specs.Decimal.{Decimal, IsDecimal, are_digits, denominator, numerator, rise_of, size_of, with_sign}
+use Rattle.cell_values.specs.inside.Reading.{decimal_of}
+use Rattle.cell_values.specs.Reading.{HasSameValue}
+use Rattle.cell_values.specs.inside.Reading.{same_value}
+use Rattle.cell_values.specs.inside.Parts.{IsRowWithin, digit_behind, is_zero}
 use Rattle.cell_values.proofs.Digits.{both, digit_byte, are_digits-append}
 use Rattle.cell_values.proofs.Cuts.{below_power, power_pos, value-append, value-cons, same_test, zero_is}
 use Rattle.cell_values.proofs.DecimalLaws.{decimal-from_text}
@@ -110,14 +112,14 @@ behind_inside ds start i =
     rw (le-ltb (i + start) start (omega arith), same) refl
 
 -- a digit of a row that stands in another is that one's
-covered : (xs : List ℕ) (start : ℕ) (ys : List ℕ) (other k : ℕ) → IsWithin xs start ys other → start ≤ k → k < start + length xs → digit_behind xs start k ≡ digit_behind ys other k
+covered : (xs : List ℕ) (start : ℕ) (ys : List ℕ) (other k : ℕ) → IsRowWithin xs start ys other → start ≤ k → k < start + length xs → digit_behind xs start k ≡ digit_behind ys other k
 covered xs start ys other k within low high =
     let same : k - start + start ≡ k = omega arith in
     let inside = behind_inside xs start (k - start) in
     let there = within (k - start) (omega arith) in
     rw same at (inside ∙ there)
 
-one_digit : (xs : List ℕ) (start : ℕ) (ys : List ℕ) (other k : ℕ) → IsWithin xs start ys other → IsWithin ys other xs start → digit_behind xs start k ≡ digit_behind ys other k
+one_digit : (xs : List ℕ) (start : ℕ) (ys : List ℕ) (other k : ℕ) → IsRowWithin xs start ys other → IsRowWithin ys other xs start → digit_behind xs start k ≡ digit_behind ys other k
 one_digit xs start ys other k within back = first (cases_lt k start) (cases_lt k (start + length xs)) (cases_lt k other) (cases_lt k (other + length ys))
   where
     second : digit_behind xs start k ≡ 48 → (k < other) ⊎ (other ≤ k) → (k < other + length ys) ⊎ (other + length ys ≤ k) → digit_behind xs start k ≡ digit_behind ys other k
@@ -131,20 +133,20 @@ one_digit xs start ys other k within back = first (cases_lt k start) (cases_lt k
     first (inr high) (inr past) c d = second (behind_past xs start k past) c d
 
 -- rows that stand in one another are one row, with zeros before and behind them
-one_row : (xs : List ℕ) (start behind : ℕ) (ys : List ℕ) (other rest : ℕ) → start + length xs + behind ≡ other + length ys + rest → IsWithin xs start ys other → IsWithin ys other xs start → padded start xs behind ≡ padded other ys rest
+one_row : (xs : List ℕ) (start behind : ℕ) (ys : List ℕ) (other rest : ℕ) → start + length xs + behind ≡ other + length ys + rest → IsRowWithin xs start ys other → IsRowWithin ys other xs start → padded start xs behind ≡ padded other ys rest
 one_row xs start behind ys other rest long within back =
     ext_get_or 48 (padded start xs behind) (padded other ys rest) (padded_length start xs behind ∙ long ∙ sym (padded_length other ys rest))
     (λ k _. padded_at start xs behind k ∙ one_digit xs start ys other k within back ∙ sym (padded_at other ys rest k))
 
-from_row : (xs : List ℕ) (start behind : ℕ) (ys : List ℕ) (other rest : ℕ) → padded start xs behind ≡ padded other ys rest → IsWithin xs start ys other
+from_row : (xs : List ℕ) (start behind : ℕ) (ys : List ℕ) (other rest : ℕ) → padded start xs behind ≡ padded other ys rest → IsRowWithin xs start ys other
 from_row xs start behind ys other rest same i inside =
     sym (behind_inside xs start i) ∙ sym (padded_at start xs behind (i + start)) ∙ ap (λ t. get_or t (i + start) 48) same ∙ padded_at other ys rest (i + start)
 
-pub alike-value : (xs : List ℕ) (start behind : ℕ) (ys : List ℕ) (other rest : ℕ) → start + length xs + behind ≡ other + length ys + rest → IsWithin xs start ys other → IsWithin ys other xs start → digits_value 10 xs * 10 ^ behind ≡ digits_value 10 ys * 10 ^ rest
+pub alike-value : (xs : List ℕ) (start behind : ℕ) (ys : List ℕ) (other rest : ℕ) → start + length xs + behind ≡ other + length ys + rest → IsRowWithin xs start ys other → IsRowWithin ys other xs start → digits_value 10 xs * 10 ^ behind ≡ digits_value 10 ys * 10 ^ rest
 alike-value xs start behind ys other rest long within back =
     sym (padded_value start xs behind) ∙ ap (digits_value 10) (one_row xs start behind ys other rest long within back) ∙ padded_value other ys rest
 
-pub value-alike : (xs : List ℕ) (start behind : ℕ) (ys : List ℕ) (other rest : ℕ) → are_digits xs ≡ true → are_digits ys ≡ true → start + length xs + behind ≡ other + length ys + rest → digits_value 10 xs * 10 ^ behind ≡ digits_value 10 ys * 10 ^ rest → IsWithin xs start ys other × IsWithin ys other xs start
+pub value-alike : (xs : List ℕ) (start behind : ℕ) (ys : List ℕ) (other rest : ℕ) → are_digits xs ≡ true → are_digits ys ≡ true → start + length xs + behind ≡ other + length ys + rest → digits_value 10 xs * 10 ^ behind ≡ digits_value 10 ys * 10 ^ rest → IsRowWithin xs start ys other × IsRowWithin ys other xs start
 value-alike xs start behind ys other rest p q long h =
     let same = same_digits (padded start xs behind) (padded other ys rest) (padded_digits start xs behind p) (padded_digits other ys rest q) (padded_length start xs behind ∙ long ∙ sym (padded_length other ys rest)) (padded_value start xs behind ∙ h ∙ sym (padded_value other ys rest)) in
     (from_row xs start behind ys other rest same, from_row ys other rest xs start behind (sym same))
@@ -157,11 +159,11 @@ long_enough : (wa fa wb fb : List ℕ) (ra na rb nb sa sb : ℕ) → sa ≡ leng
 long_enough wa fa wb fb ra na rb nb sa sb a b = omega (arith, length-append wa fa, length-append wb fb, a, b)
 
 -- rows that stand in one another have one size, where their decimals have these exponents
-pub sizes-from_rows : (wa fa wb fb : List ℕ) (ra na rb nb sa sb : ℕ) → sa ≡ length wb + rb + na → sb ≡ length wa + ra + nb → IsWithin (wa ++ fa) sa (wb ++ fb) sb → IsWithin (wb ++ fb) sb (wa ++ fa) sa → digits_value 10 (wa ++ fa) * 10 ^ ra * 10 ^ (length fb + nb) ≡ digits_value 10 (wb ++ fb) * 10 ^ rb * 10 ^ (length fa + na)
+pub sizes-from_rows : (wa fa wb fb : List ℕ) (ra na rb nb sa sb : ℕ) → sa ≡ length wb + rb + na → sb ≡ length wa + ra + nb → IsRowWithin (wa ++ fa) sa (wb ++ fb) sb → IsRowWithin (wb ++ fb) sb (wa ++ fa) sa → digits_value 10 (wa ++ fa) * 10 ^ ra * 10 ^ (length fb + nb) ≡ digits_value 10 (wb ++ fb) * 10 ^ rb * 10 ^ (length fa + na)
 sizes-from_rows wa fa wb fb ra na rb nb sa sb a b within back =
     crossed (digits_value 10 (wa ++ fa)) ra (length fb) nb ∙ alike-value (wa ++ fa) sa (ra + (length fb + nb)) (wb ++ fb) sb (rb + (length fa + na)) (long_enough wa fa wb fb ra na rb nb sa sb a b) within back ∙ sym (crossed (digits_value 10 (wb ++ fb)) rb (length fa) na)
 
-pub rows-from_sizes : (wa fa wb fb : List ℕ) (ra na rb nb sa sb : ℕ) → are_digits (wa ++ fa) ≡ true → are_digits (wb ++ fb) ≡ true → sa ≡ length wb + rb + na → sb ≡ length wa + ra + nb → digits_value 10 (wa ++ fa) * 10 ^ ra * 10 ^ (length fb + nb) ≡ digits_value 10 (wb ++ fb) * 10 ^ rb * 10 ^ (length fa + na) → IsWithin (wa ++ fa) sa (wb ++ fb) sb × IsWithin (wb ++ fb) sb (wa ++ fa) sa
+pub rows-from_sizes : (wa fa wb fb : List ℕ) (ra na rb nb sa sb : ℕ) → are_digits (wa ++ fa) ≡ true → are_digits (wb ++ fb) ≡ true → sa ≡ length wb + rb + na → sb ≡ length wa + ra + nb → digits_value 10 (wa ++ fa) * 10 ^ ra * 10 ^ (length fb + nb) ≡ digits_value 10 (wb ++ fb) * 10 ^ rb * 10 ^ (length fa + na) → IsRowWithin (wa ++ fa) sa (wb ++ fb) sb × IsRowWithin (wb ++ fb) sb (wa ++ fa) sa
 rows-from_sizes wa fa wb fb ra na rb nb sa sb p q a b h =
     value-alike (wa ++ fa) sa (ra + (length fb + nb)) (wb ++ fb) sb (rb + (length fa + na)) p q (long_enough wa fa wb fb ra na rb nb sa sb a b) (sym (crossed (digits_value 10 (wa ++ fa)) ra (length fb) nb) ∙ h ∙ crossed (digits_value 10 (wb ++ fb)) rb (length fa) na)
 

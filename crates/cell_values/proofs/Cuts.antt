@@ -10,7 +10,7 @@ use Rattle.std.proofs.lemmas.List.{take-append-drop}
 use Rattle.std.proofs.lemmas.Int.Digits.{digits_value-lt}
 use Rattle.cell_values.specs.declared.read.Cut.{Cut}
 use Rattle.cell_values.specs.Decimal.{are_digits}
-use Rattle.cell_values.specs.Parts.{IsCut, is_zero}
+use Rattle.cell_values.specs.inside.Parts.{IsCut, is_zero}
 use Rattle.cell_values.proofs.Digits.{all_digits, both, digit_byte, value_after-append, are_digits-drop}
 
 -- ---- tests that agree

@@ -6,7 +6,8 @@ use Rattle.std.specs.Str.Parse.{digits_value, starts_with_minus, without_leading
 use Rattle.std.proofs.lemmas.Grind.{common_steps}
 use Rattle.std.proofs.lemmas.Bool.{eqb-true, ltb-true, leb-true, lt-ltb, le-leb}
 use Rattle.std.proofs.lemmas.List.{take-append-drop}
-use Rattle.cell_values.specs.Decimal.{Decimal, IsDecimal, IsDecimalText, IsSign, IsPointed, IsPower, IsExponent, are_digits, with_sign, decimal_of, decimal_of_parts, exponent_of, front_digits, behind_digits, fraction_digits, behind_fraction, has_digits, is_power_letter, is_short_numeral}
+use Rattle.cell_values.specs.Decimal.{Decimal, IsDecimal, IsDecimalText, IsSign, IsPointed, IsPower, IsExponent, are_digits, with_sign}
+use Rattle.cell_values.specs.inside.Reading.{decimal_of, decimal_of_parts, exponent_of, front_digits, behind_digits, fraction_digits, behind_fraction, has_digits, is_power_letter, is_short_numeral}
 use Rattle.cell_values.proofs.Digits.{both, digits_at_front}
 
 -- ---- a text by parts that were found in turn

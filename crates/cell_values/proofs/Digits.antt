@@ -7,7 +7,8 @@ use Rattle.std.proofs.lemmas.Grind.{common_steps}
 use Rattle.std.proofs.lemmas.Bool.{leb-true}
 use Rattle.std.proofs.lemmas.Int.Digits.{digits_value-lt}
 use Rattle.std.proofs.Math.Nat.{pow-le-pow_right}
-use Rattle.cell_values.specs.Decimal.{are_digits, is_short_numeral}
+use Rattle.cell_values.specs.Decimal.{are_digits}
+use Rattle.cell_values.specs.inside.Reading.{is_short_numeral}
 
 -- further digits make no number smaller
 pub value_after-ge : (n : ℕ) (ds : List ℕ) → n ≤ digits_value_after 10 n ds

@@ -1,3 +1,4 @@
+pub mod Callers
 pub mod Alike
 pub mod Cuts
 pub mod DecimalLaws
@@ -7,3 +8,4 @@ pub mod PrintedBack
 pub mod PrintedTokens
 pub mod Readings
 pub mod Trim
+pub mod WrittenLaws

@@ -15,8 +15,9 @@ use Rattle.cell_values.specs.declared.cell.Cell.TheVariants.{Val}
 use Rattle.cell_values.specs.Kinds.{IsValue}
 use Rattle.cell_values.specs.Rounding.{IsNearest, IsNearestSize, nearest_size}
 use Rattle.cell_values.specs.Decimal.{Decimal, IsDecimal, IsSign, IsPointed, are_digits, numerator, denominator, size_of, with_sign}
-use Rattle.cell_values.specs.Printed.{six_digits, before_trimmed, trimmed, fraction_text, size_text, millionths_text, printed_value, printed_cell}
-use Rattle.cell_values.specs.Reading.{IsTaken, IsQuotient, cell_read}
+use Rattle.cell_values.specs.inside.Printed.{six_digits, before_trimmed, trimmed, fraction_text, size_text, millionths_text, printed_value, printed_cell}
+use Rattle.cell_values.specs.Reading.{IsTaken, IsQuotient}
+use Rattle.cell_values.specs.inside.Reading.{cell_read}
 use Rattle.cell_values.proofs.Digits.{both, digit_byte}
 use Rattle.cell_values.proofs.Nearest.{nearest_size-unique, nearest_size-IsNearestSize, nearest-IsNearest}
 use Rattle.cell_values.proofs.Cuts.{value-append, value-cons}
@@ -33,7 +34,7 @@ tells_digits = record {
     in_range : (c : ℕ) → 48 ≤ c → c ≤ 57 → is_ascii_digit c ≡ true
     in_range c low high = grind (arith, common_steps)
 
-own : IsNumeralModel (λ ds. are_digits ds ≡ true) (digits_value 10)
+pub own : IsNumeralModel (λ ds. are_digits ds ≡ true) (digits_value 10)
 own = numerals_by_value (λ ds. are_digits ds ≡ true) tells_digits
 
 -- ---- the fraction
@@ -43,14 +44,14 @@ digit_in_range n small = grind (arith, common_steps)
 digit_of : (n : ℕ) → n < 10 → digit_value (48 + n) ≡ n
 digit_of n small = omega (arith, digit_byte (48 + n) (digit_in_range n small))
 
-six_are_digits : (n : ℕ) → n < 1000000 → are_digits (six_digits n) ≡ true
+pub six_are_digits : (n : ℕ) → n < 1000000 → are_digits (six_digits n) ≡ true
 six_are_digits n small =
     rw (digit_in_range (n / 100000) (omega arith), digit_in_range (n / 10000 % 10) (omega arith), digit_in_range (n / 1000 % 10) (omega arith), digit_in_range (n / 100 % 10) (omega arith), digit_in_range (n / 10 % 10) (omega arith), digit_in_range (n % 10) (omega arith)) refl
 
 six_sum : (n : ℕ) → (((((0 * 10 + n / 100000) * 10 + n / 10000 % 10) * 10 + n / 1000 % 10) * 10 + n / 100 % 10) * 10 + n / 10 % 10) * 10 + n % 10 ≡ n
 six_sum n = omega arith
 
-six_value : (n : ℕ) → n < 1000000 → digits_value 10 (six_digits n) ≡ n
+pub six_value : (n : ℕ) → n < 1000000 → digits_value 10 (six_digits n) ≡ n
 six_value n small =
     rw (digit_of (n / 100000) (omega arith), digit_of (n / 10000 % 10) (omega arith), digit_of (n / 1000 % 10) (omega arith), digit_of (n / 100 % 10) (omega arith), digit_of (n / 10 % 10) (omega arith), digit_of (n % 10) (omega arith)) (six_sum n)
 
@@ -63,7 +64,7 @@ before_digits : (d : ℕ) (ds : List ℕ) → is_ascii_digit d ≡ true → are_
 before_digits d [] p q = first_digits (d == 48) d p
 before_digits d (e ∷ ds) p q = rw p q
 
-trimmed_digits : (ds : List ℕ) → are_digits ds ≡ true → are_digits (trimmed ds) ≡ true
+pub trimmed_digits : (ds : List ℕ) → are_digits ds ≡ true → are_digits (trimmed ds) ≡ true
 trimmed_digits [] p = refl
 trimmed_digits (d ∷ ds) p =
     let parts = both (is_ascii_digit d) (are_digits ds) p in
@@ -98,7 +99,7 @@ before_value d (e ∷ ds) w L p h =
     rw (value-cons d (e ∷ ds), pow-suc 10 (length (e ∷ ds))) (scale (digit_value d) w (digits_value 10 (e ∷ ds)) (10 ^ length (e ∷ ds)) L h)
 
 -- a fraction is what it was
-trimmed_value : (ds : List ℕ) → are_digits ds ≡ true → digits_value 10 (trimmed ds) * 10 ^ length ds ≡ digits_value 10 ds * 10 ^ length (trimmed ds)
+pub trimmed_value : (ds : List ℕ) → are_digits ds ≡ true → digits_value 10 (trimmed ds) * 10 ^ length ds ≡ digits_value 10 ds * 10 ^ length (trimmed ds)
 trimmed_value [] p = refl
 trimmed_value (d ∷ ds) p =
     let parts = both (is_ascii_digit d) (are_digits ds) p in
@@ -107,7 +108,7 @@ trimmed_value (d ∷ ds) p =
 
 -- ---- the decimal that is printed
 -- so many millionths
-abbrev printed_millionths : Bool → ℕ → Decimal
+abbrev pub printed_millionths : Bool → ℕ → Decimal
 printed_millionths negative n = record { negative = negative; whole = decimal (n / 1000000); fraction = trimmed (six_digits (n % 1000000)); exponent = pos 0 }
 
 -- a whole number
@@ -122,7 +123,7 @@ pointed_length : (b : Bool) (ds : List ℕ) → length ds ≤ 6 → length (cond
 pointed_length true ds small = omega arith
 pointed_length false ds small = omega arith
 
-sign_length : (negative : Bool) (sign : List ℕ) → IsSign sign negative → length sign ≤ 1
+pub sign_length : (negative : Bool) (sign : List ℕ) → IsSign sign negative → length sign ≤ 1
 sign_length true sign is = omega (arith, ap length is)
 sign_length false sign (inl none) = omega (arith, ap length none)
 sign_length false sign (inr plus) = omega (arith, ap length plus)
@@ -172,7 +173,7 @@ whole_text_is negative sign n is small =
     }
 
 -- ---- its value
-millionths_size : (negative : Bool) (n : ℕ) → n < 2 ^ 64 → 1000000 * size_of (printed_millionths negative n) ≡ n * denominator (printed_millionths negative n)
+pub millionths_size : (negative : Bool) (n : ℕ) → n < 2 ^ 64 → 1000000 * size_of (printed_millionths negative n) ≡ n * denominator (printed_millionths negative n)
 unfolding size_of denominator
 millionths_size negative n small =
     let whole = n / 1000000 in
@@ -190,7 +191,7 @@ millionths_size negative n small =
     joined : (v whole part f P n : ℕ) → v ≡ whole * P + f → f * 1000000 ≡ part * P → n ≡ 1000000 * whole + part → 1000000 * (v * 1) ≡ n * P
     joined v whole part f P n value second parts = rw (value, parts) (omega (arith, second))
 
-nearest_multiple : (n d : ℕ) → 0 < d → nearest_size (n * d) d ≡ n
+pub nearest_multiple : (n d : ℕ) → 0 < d → nearest_size (n * d) d ≡ n
 nearest_multiple n d some =
     let is : IsNearestSize (n * d) d n = record { above = omega arith; below = omega arith } in
     nearest_size-unique (n * d) d (nearest_size (n * d) d) n (nearest_size-IsNearestSize (n * d) d some) is

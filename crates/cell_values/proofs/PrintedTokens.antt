@@ -11,9 +11,11 @@ use Rattle.cell_values.specs.declared.cell.Cell.{Cell}
 use Rattle.cell_values.specs.declared.cell.Cell.TheVariants.{Mv, Val}
 use Rattle.cell_values.specs.Kinds.{IsValue, IsCell}
 use Rattle.cell_values.specs.Rounding.{IsNearest}
-use Rattle.cell_values.specs.Decimal.{Decimal, IsDecimalText, IsExponent, IsSign, IsPointed, are_digits, decimal_of, numerator, denominator, size_of}
-use Rattle.cell_values.specs.Printed.{printed_cell}
-use Rattle.cell_values.specs.Reading.{IsTaken, IsQuotient, HasValue, same_value}
+use Rattle.cell_values.specs.Decimal.{Decimal, IsDecimalText, IsExponent, IsSign, IsPointed, are_digits, numerator, denominator, size_of}
+use Rattle.cell_values.specs.inside.Reading.{decimal_of}
+use Rattle.cell_values.specs.inside.Printed.{printed_cell}
+use Rattle.cell_values.specs.Reading.{IsTaken, IsQuotient, HasValue}
+use Rattle.cell_values.specs.inside.Reading.{same_value}
 use Rattle.cell_values.proofs.Digits.{both, digit_byte}
 use Rattle.cell_values.proofs.DecimalLaws.{decimal-from_text, text-from_decimal}
 use Rattle.cell_values.proofs.Alike.{same_value-means}

@@ -11,11 +11,13 @@ use Rattle.cell_values.specs.declared.cell.NumberFault.{NumberFault}
 use Rattle.cell_values.specs.declared.cell.NumberFault.TheVariants.{BadNumber, Range}
 use Rattle.cell_values.specs.declared.cell.Over.{Over}
 use Rattle.cell_values.specs.declared.read.Cut.{Cut}
-use Rattle.cell_values.specs.Kinds.{IsValue, is_value, cell_of, least, greatest}
+use Rattle.cell_values.specs.Kinds.{IsValue, is_value, cell_of_number, least, greatest}
 use Rattle.cell_values.specs.Rounding.{IsNearest, IsNearestSize, nearest, nearest_size}
-use Rattle.cell_values.specs.Decimal.{Decimal, IsDecimal, IsDecimalText, decimal_of, numerator, denominator, with_sign, fall_of}
-use Rattle.cell_values.specs.Parts.{IsCut, IsBeyond}
-use Rattle.cell_values.specs.Reading.{IsQuotient, IsTaken, HasValue, HasNoValue, IsCellOf, quotient, number_taken, cell_taken, cell_of_decimal, cell_read}
+use Rattle.cell_values.specs.Decimal.{Decimal, IsDecimal, IsDecimalText, numerator, denominator, with_sign, fall_of}
+use Rattle.cell_values.specs.inside.Reading.{decimal_of}
+use Rattle.cell_values.specs.inside.Parts.{IsCut, IsBeyond}
+use Rattle.cell_values.specs.Reading.{IsQuotient, IsTaken, HasValue, HasNoValue, IsCellOf}
+use Rattle.cell_values.specs.inside.Reading.{quotient, number_taken, cell_taken, cell_of_decimal, cell_read}
 use Rattle.cell_values.proofs.DecimalLaws.{decimal-from_text, text-from_decimal}
 use Rattle.cell_values.proofs.Nearest.{nearest_size-unique, nearest_size-IsNearestSize, nearest-pos, nearest-negsuc, nearest-IsNearest, nearest-unique}
 use Rattle.cell_values.proofs.Cuts.{power_pos}
@@ -126,14 +128,14 @@ ok_case : (b : Bool) (z : ℤ) (cell : Cell) → (let over : Result Cell Over = 
 ok_case true z cell h = ap Ok (cc)
 ok_case false z cell h = absurd (cc)
 
-pub cell-ok : (kind : Kind) (z : ℤ) (cell : Cell) → cell_of kind z ≡ Ok cell → Ok cell ≡ cell_taken kind (Some z)
+pub cell-ok : (kind : Kind) (z : ℤ) (cell : Cell) → cell_of_number kind z ≡ Ok cell → Ok cell ≡ cell_taken kind (Some z)
 cell-ok kind z cell h = ok_case (is_value kind z) z cell h
 
 over_case : (b : Bool) (z : ℤ) (over : Over) → (let none : Result Cell Over = Err (record {}) in cond b (Ok (Val z)) none ≡ Err over) → (let range : Result Cell NumberFault = Err Range in range ≡ cond b (Ok (Val z)) range)
 over_case true z over h = absurd (cc)
 over_case false z over h = refl
 
-pub cell-over : (kind : Kind) (z : ℤ) (over : Over) → cell_of kind z ≡ Err over → Err Range ≡ cell_taken kind (Some z)
+pub cell-over : (kind : Kind) (z : ℤ) (over : Over) → cell_of_number kind z ≡ Err over → Err Range ≡ cell_taken kind (Some z)
 cell-over kind z over h = over_case (is_value kind z) z over h
 
 -- ---- what is beyond 64 bits before it is rounded, is so after

@@ -2,7 +2,7 @@
 use Rattle.std.proofs.Common.{◌≡◌, ◌≢◌, ℕ, Bool, true, false, cond, List, [], ◌∷◌, ◌++◌, refl, sym, ap, ◌∙◌}
 use Rattle.std.specs.Prelude.{◌==◌}
 use Rattle.std.proofs.lemmas.Bool.{eqb-true}
-use Rattle.cell_values.specs.Printed.{before_trimmed, trimmed}
+use Rattle.cell_values.specs.inside.Printed.{before_trimmed, trimmed}
 
 -- a zero at the end is left out
 trimmed-zero : (xs : List ℕ) → trimmed (xs ++ 48 ∷ []) ≡ trimmed xs

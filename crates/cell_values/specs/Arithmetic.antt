@@ -5,7 +5,8 @@ use Rattle.cell_values.specs.declared.kind.Kind.TheVariants.{Scalar}
 use Rattle.cell_values.specs.declared.cell.Cell.{Cell}
 use Rattle.cell_values.specs.declared.cell.Cell.TheVariants.{Mv, Val}
 use Rattle.cell_values.specs.declared.cell.Over.{Over}
-use Rattle.cell_values.specs.Kinds.{cell_of}
+use Rattle.cell_values.specs.Units.{million}
+use Rattle.cell_values.specs.Kinds.{cell_of_number}
 use Rattle.cell_values.specs.Rounding.{cut_quotient, nearest, nearest_quotient}
 
 -- what an operation on two numbers gives at two cells: a missing operand gives a missing value
@@ -19,27 +20,27 @@ abbrev pub divided_cells : (ℤ → ℤ → Result Cell Over) → Cell → Cell 
 divided_cells of_numbers = at_cells (λ a b. if int_eq b (pos 0) then Ok Mv else of_numbers a b)
 
 -- the sum of two scalars
-abbrev pub sum_of : Cell → Cell → Result Cell Over
-sum_of = at_cells (λ a b. cell_of Scalar (a +ℤ b))
+abbrev pub scalar_sum : Cell → Cell → Result Cell Over
+scalar_sum = at_cells (λ a b. cell_of_number Scalar (a +ℤ b))
 
 -- the difference of two scalars
-abbrev pub difference_of : Cell → Cell → Result Cell Over
-difference_of = at_cells (λ a b. cell_of Scalar (a -ℤ b))
+abbrev pub scalar_difference : Cell → Cell → Result Cell Over
+scalar_difference = at_cells (λ a b. cell_of_number Scalar (a -ℤ b))
 
 -- the product of two scalars, rounded to millionths
-abbrev pub product_of : Cell → Cell → Result Cell Over
-product_of = at_cells (λ a b. cell_of Scalar (nearest (a *ℤ b) 1000000))
+abbrev pub scalar_product : Cell → Cell → Result Cell Over
+scalar_product = at_cells (λ a b. cell_of_number Scalar (nearest (a *ℤ b) million))
 
 -- the quotient of two scalars, rounded to millionths
-abbrev pub quotient_of : Cell → Cell → Result Cell Over
-quotient_of = divided_cells (λ a b. cell_of Scalar (nearest_quotient (a *ℤ pos 1000000) b))
+abbrev pub scalar_quotient : Cell → Cell → Result Cell Over
+scalar_quotient = divided_cells (λ a b. cell_of_number Scalar (nearest_quotient (a *ℤ pos million) b))
 
 -- the quotient of two scalars, cut toward zero to a whole number
-abbrev pub whole_quotient_of : Cell → Cell → Result Cell Over
-whole_quotient_of = divided_cells (λ a b. cell_of Scalar (cut_quotient a b *ℤ pos 1000000))
+abbrev pub scalar_whole_quotient : Cell → Cell → Result Cell Over
+scalar_whole_quotient = divided_cells (λ a b. cell_of_number Scalar (cut_quotient a b *ℤ pos million))
 
 -- what is left of a scalar where the other one is taken away as often as their quotient, cut toward zero, says
-abbrev pub remainder_of : Cell → Cell → Cell
-remainder_of Mv b = Mv
-remainder_of (Val a) Mv = Mv
-remainder_of (Val a) (Val b) = if int_eq b (pos 0) then Mv else Val (a -ℤ (b *ℤ cut_quotient a b))
+abbrev pub scalar_remainder : Cell → Cell → Cell
+scalar_remainder Mv b = Mv
+scalar_remainder (Val a) Mv = Mv
+scalar_remainder (Val a) (Val b) = if int_eq b (pos 0) then Mv else Val (a -ℤ (b *ℤ cut_quotient a b))

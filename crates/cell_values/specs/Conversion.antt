@@ -7,7 +7,8 @@ use Rattle.cell_values.specs.declared.kind.Kind.TheVariants.{Boolean, Nominal, O
 use Rattle.cell_values.specs.declared.cell.Cell.{Cell}
 use Rattle.cell_values.specs.declared.cell.Cell.TheVariants.{Mv, Val}
 use Rattle.cell_values.specs.declared.cell.Over.{Over}
-use Rattle.cell_values.specs.Kinds.{cell_of}
+use Rattle.cell_values.specs.Units.{full_turn, million}
+use Rattle.cell_values.specs.Kinds.{cell_of_number}
 use Rattle.cell_values.specs.Rounding.{cut_quotient}
 
 -- whether there is a conversion from the kind to booleans
@@ -57,18 +58,18 @@ truth_of _ z = if int_eq z (pos 0) then pos 0 else pos 1
 
 -- a number of a kind as a class: a scalar is cut toward zero to a whole number
 abbrev pub class_of : Kind → ℤ → ℤ
-class_of Scalar z = cut_quotient z (pos 1000000)
+class_of Scalar z = cut_quotient z (pos million)
 class_of _ z = z
 
 -- a number of a kind as a scalar: what does not count millionths yet is multiplied
 abbrev pub scalar_of : Kind → ℤ → ℤ
 scalar_of Scalar z = z
 scalar_of Directional z = z
-scalar_of _ z = z *ℤ pos 1000000
+scalar_of _ z = z *ℤ pos million
 
 -- a number of a kind as a direction: a scalar is reduced modulo 360 degrees into 0 up to but not 360
 abbrev pub direction_of : Kind → ℤ → ℤ
-direction_of Scalar z = int_rem_euclid z (pos 360000000)
+direction_of Scalar z = int_rem_euclid z (pos full_turn)
 direction_of _ z = z
 
 -- a number of the first kind as one of the second
@@ -83,4 +84,4 @@ converted from Ldd z = z
 -- a cell of the first kind as one of the second
 abbrev pub conversion_of : Kind → Kind → Cell → Result Cell Over
 conversion_of from to Mv = Ok Mv
-conversion_of from to (Val z) = cell_of to (converted from to z)
+conversion_of from to (Val z) = cell_of_number to (converted from to z)

@@ -1,8 +1,10 @@
 -- Decimal texts. Each stands for a whole number times a power of ten, exactly.
-use Rattle.std.specs.Prelude.{◌≡◌, ℕ, ◌+◌, ◌*◌, ◌^◌, ◌<◌, ◌≤◌, suc, Bool, true, false, ◌&&◌, ◌||◌, IsTrue, List, [], ◌∷◌, ◌++◌, length, drop, ℤ, pos, negsuc, neg_ℤ, ◌⊎◌, Option, Some, None, codes, ◌==◌, nat_lt, nat_le, take_while, slice_index, option_map, if◌then◌else◌}
+use Rattle.std.specs.Prelude.{◌≡◌, ℕ, ◌+◌, ◌*◌, ◌^◌, ◌<◌, ◌≤◌, suc, Bool, true, false, IsTrue, ◌⊎◌}
+use Rattle.std.specs.Prelude.{List, [], ◌++◌, length, ℤ, pos, negsuc, neg_ℤ, codes}
 use Rattle.std.specs.Char.{is_ascii_digit}
-use Rattle.std.specs.List.{list_all, prefix_len}
-use Rattle.std.specs.Str.Parse.{digits_value, without_leading_sign, starts_with_minus}
+use Rattle.std.specs.List.{list_all}
+use Rattle.std.specs.Str.Parse.{digits_value}
+use Rattle.text_base.specs.Limits.{longest_number}
 
 -- a decimal by its parts: its sign, the digits before and behind the point, as bytes, and its exponent
 pub record Decimal : Type 0 where
@@ -29,6 +31,10 @@ IsSign text true = text ≡ codes "-"
 abbrev pub IsPointed : List ℕ → List ℕ → Type 0
 IsPointed text fraction = (text ≡ codes "." ++ fraction) ⊎ ((text ≡ []) × (fraction ≡ []))
 
+-- the most digits of an exponent
+abbrev pub most_exponent_digits : ℕ
+most_exponent_digits = 6
+
 -- `e` or `E`, a sign or none, and one to six digits
 pub record IsPower (text : List ℕ) (exponent : ℤ) : Type 0 where
   pub letter : List ℕ
@@ -40,7 +46,7 @@ pub record IsPower (text : List ℕ) (exponent : ℤ) : Type 0 where
   pub signed : IsSign sign negative
   pub numeral : IsTrue (are_digits digits)
   pub some : 0 < length digits
-  pub few : length digits ≤ 6
+  pub few : length digits ≤ most_exponent_digits
   pub value : exponent ≡ with_sign negative (digits_value 10 digits)
 
 -- an exponent, or no text where it is 0
@@ -54,7 +60,7 @@ pub record IsDecimal (text : List ℕ) (d : Decimal) : Type 0 where
   pub pointed : List ℕ
   pub power : List ℕ
   pub parts : text ≡ sign ++ d.whole ++ pointed ++ power
-  pub short : length text ≤ 128
+  pub short : length text ≤ longest_number
   pub signed : IsSign sign d.negative
   pub whole : IsTrue (are_digits d.whole)
   pub fraction : IsTrue (are_digits d.fraction)
@@ -87,48 +93,3 @@ numerator d = with_sign d.negative (size_of d)
 -- over this power of ten, one ten for each digit behind the point and for each step of an exponent below 0
 unfoldable pub denominator : Decimal → ℕ
 denominator d = 10 ^ (length d.fraction + fall_of d.exponent)
-
--- the digits at the front of a text
-abbrev pub front_digits : List ℕ → List ℕ
-front_digits text = take_while is_ascii_digit text
-
--- what stands behind them
-abbrev pub behind_digits : List ℕ → List ℕ
-behind_digits text = drop (prefix_len is_ascii_digit text) text
-
--- the digits behind a point at the front, or none
-abbrev pub fraction_digits : List ℕ → List ℕ
-fraction_digits text = if slice_index text 0 == 46 then front_digits (drop 1 text) else []
-
--- what stands behind the point and its digits
-abbrev pub behind_fraction : List ℕ → List ℕ
-behind_fraction text = if slice_index text 0 == 46 then behind_digits (drop 1 text) else text
-
--- one to six digits
-abbrev pub is_short_numeral : List ℕ → Bool
-is_short_numeral digits = are_digits digits && nat_lt 0 (length digits) && nat_le (length digits) 6
-
--- `e` or `E`
-abbrev pub is_power_letter : ℕ → Bool
-is_power_letter letter = letter == 101 || letter == 69
-
--- the exponent that a whole text stands for
-abbrev pub exponent_of : List ℕ → Option ℤ
-exponent_of [] = Some (pos 0)
-exponent_of (letter ∷ text) = if is_power_letter letter && is_short_numeral (without_leading_sign text) then Some (with_sign (starts_with_minus text) (digits_value 10 (without_leading_sign text))) else None
-
--- a text of at most 128 bytes with a digit before or behind the point
-abbrev pub has_digits : List ℕ → List ℕ → List ℕ → Bool
-has_digits text whole fraction = nat_le (length text) 128 && nat_lt 0 (length whole + length fraction)
-
--- the decimal of a text's parts: its sign, its digits before and behind the point, and what stands behind them
-abbrev pub decimal_of_parts : List ℕ → Bool → List ℕ → List ℕ → List ℕ → Option Decimal
-decimal_of_parts text negative whole fraction power = if has_digits text whole fraction then option_map (λ exponent. record { negative = negative; whole = whole; fraction = fraction; exponent = exponent }) (exponent_of power) else None
-
--- the decimal of a text without its sign
-abbrev pub decimal_of_unsigned : List ℕ → Bool → List ℕ → Option Decimal
-decimal_of_unsigned text negative unsigned = decimal_of_parts text negative (front_digits unsigned) (fraction_digits (behind_digits unsigned)) (behind_fraction (behind_digits unsigned))
-
--- the decimal that the text is
-unfoldable pub decimal_of : List ℕ → Option Decimal
-decimal_of text = decimal_of_unsigned text (starts_with_minus text) (without_leading_sign text)

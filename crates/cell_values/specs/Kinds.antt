@@ -39,5 +39,5 @@ IsCell kind Mv = Unit {0}
 IsCell kind (Val number) = IsValue kind number
 
 -- the cell of a number, where it is a value of the kind
-abbrev pub cell_of : Kind → ℤ → Result Cell Over
-cell_of kind number = if is_value kind number then Ok (Val number) else Err (record {})
+abbrev pub cell_of_number : Kind → ℤ → Result Cell Over
+cell_of_number kind number = if is_value kind number then Ok (Val number) else Err (record {})

@@ -2,7 +2,8 @@ pub mod Arithmetic
 pub mod Conversion
 pub mod Decimal
 pub mod Kinds
-pub mod Parts
-pub mod Printed
 pub mod Reading
 pub mod Rounding
+pub mod Units
+pub mod Written
+pub mod inside

@@ -1,5 +1,6 @@
 -- Fractions as whole numbers: the nearest one, ties away from zero, and the one that is cut toward zero.
-use Rattle.std.specs.Prelude.{◌≤ℤ◌, ◌<ℤ◌, ℕ, suc, ℤ, pos, negsuc, ◌+◌, ◌*◌, ◌/◌, ◌<◌, ◌≤◌, neg_ℤ, int_div, unsigned_abs, int_lt, if◌then◌else◌}
+use Rattle.std.specs.Prelude.{◌≤ℤ◌, ◌<ℤ◌, ℕ, suc, ℤ, pos, negsuc, ◌+◌, ◌*◌, ◌/◌, ◌<◌, ◌≤◌, neg_ℤ, int_div, unsigned_abs}
+use Rattle.std.specs.Prelude.{int_lt, if◌then◌else◌}
 
 -- q is the nearest whole number to s / d, and the greater one where two are as near
 pub record IsNearestSize (s d q : ℕ) : Type 0 where

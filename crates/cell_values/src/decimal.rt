@@ -1,18 +1,19 @@
 //! The parts of a decimal text.
 
-ghost use Rattle.std.specs.Prelude.{◌≡◌, ◌↔◌, ◌+◌, ◌++◌, ◌<◌, ◌≤◌, IfSome, List, ℕ, IsTrue, Some, is_some, length};
+ghost use Rattle.std.specs.Prelude.{◌≡◌, ◌↔◌, ◌^◌, ◌+◌, ◌++◌, ◌<◌, ◌≤◌, IfSome, List, ℕ, IsTrue, Some, is_some, length};
 ghost use Rattle.std.specs.Char.{is_ascii_digit};
 ghost use Rattle.std.specs.List.{prefix_len};
 ghost use Rattle.std.specs.Option.{option_map};
 ghost use Rattle.std.specs.Str.Parse.{digits_value, starts_with_minus, without_leading_sign};
-ghost use Rattle.cell_values.specs.Decimal.{Decimal, IsDecimal, IsDecimalText, are_digits, behind_digits, behind_fraction, decimal_of, exponent_of, fall_of, fraction_digits, front_digits, has_digits, is_power_letter, is_short_numeral, rise_of, with_sign};
+ghost use Rattle.text_base.specs.Limits.{longest_number};
+ghost use Rattle.cell_values.specs.Decimal.{most_exponent_digits, Decimal, IsDecimal, IsDecimalText, are_digits, fall_of, rise_of, with_sign};
+ghost use Rattle.cell_values.specs.inside.Reading.{behind_digits, behind_fraction, decimal_of, exponent_of, fraction_digits, front_digits, has_digits, is_power_letter, is_short_numeral};
 
 use crate::digit_row::{Row, number_after};
+use text_base::LONGEST_NUMBER;
 
-// The most bytes of a decimal, and the most digits of its exponent.
-const MOST_BYTES: usize = 128;
-
-const MOST_DIGITS: usize = 6;
+/// The most digits of an exponent.
+const MOST_EXPONENT_DIGITS: usize = 6;
 
 /// A decimal by its parts: whether a minus stands first, the digits before and behind the point, whether the
 /// exponent is below 0, and its size.
@@ -25,12 +26,12 @@ pub(crate) struct Parts<'a> {
     pub(crate) power: usize,
     ghost whole_digits: { IsTrue (are_digits whole.now) },
     ghost fraction_digits: { IsTrue (are_digits fraction.now) },
-    ghost short: { length whole.now + length fraction.now ≤ 128 },
-    ghost small: { power < 1000000 },
+    ghost short: { length whole.now + length fraction.now ≤ longest_number },
+    ghost small: { power < 10 ^ most_exponent_digits },
 }
 
 impl Parts<'_> {
-    ghost use Rattle.cell_values.specs.Parts.{decimal_with, row_digits};
+    ghost use Rattle.cell_values.specs.inside.Parts.{decimal_with, row_digits};
 
     /// The parts of the text, where it is a decimal.
     pub(crate) fn of(text: &[u8]) -> Option<Parts<'_>>
@@ -67,7 +68,7 @@ impl Parts<'_> {
     /// The exponent where it is above 0, and else 0.
     pub(crate) fn rise(&self) -> usize
         ensures value { result ≡ rise_of (with_sign self.now.falls self.now.power) }
-        ensures small { result < 1000000 }
+        ensures small { result < 10 ^ most_exponent_digits }
     {
         if self.falls { 0 } else { self.power }
     }
@@ -75,7 +76,7 @@ impl Parts<'_> {
     /// The size of the exponent where it is below 0, and else 0.
     pub(crate) fn fall(&self) -> usize
         ensures value { result ≡ fall_of (with_sign self.now.falls self.now.power) }
-        ensures small { result < 1000000 }
+        ensures small { result < 10 ^ most_exponent_digits }
     {
         if self.falls { self.power } else { 0 }
     }
@@ -136,7 +137,7 @@ fn has_digits(text: &[u8], whole: &[u8], fraction: &[u8]) -> bool
     requires { length whole.now + length fraction.now ≤ length text.now }
     ensures { result ≡ has_digits text.now whole.now fraction.now }
 {
-    text.len() <= MOST_BYTES && 0 < whole.len() + fraction.len()
+    text.len() <= LONGEST_NUMBER && 0 < whole.len() + fraction.len()
 }
 
 // Whether each byte is a digit.
@@ -150,14 +151,14 @@ fn has_only_digits(text: &[u8]) -> bool
 fn is_short_numeral(digits: &[u8]) -> bool
     ensures { result ≡ is_short_numeral digits.now }
 {
-    has_only_digits(digits) && 0 < digits.len() && digits.len() <= MOST_DIGITS
+    has_only_digits(digits) && 0 < digits.len() && digits.len() <= MOST_EXPONENT_DIGITS
 }
 
 // The number of at most six digits.
 fn short_number(digits: &[u8]) -> usize
     requires { IsTrue (is_short_numeral digits.now) }
     ensures value { result ≡ digits_value 10 digits.now }
-    ensures small { result < 1000000 }
+    ensures small { result < 10 ^ most_exponent_digits }
 {
     number_after(0, digits).unwrap_or(0) as usize
 }
@@ -171,7 +172,7 @@ fn is_power_letter(letter: u8) -> bool
 // The exponent that the text is, whether it is below 0 and its size: 0 where the text is empty.
 fn read_power(text: &[u8]) -> Option<(bool, usize)>
     ensures value { option_map (λ power. with_sign power.0 power.1) result ≡ exponent_of text.now }
-    ensures small { IfSome result (λ power. power.1 < 1000000) }
+    ensures small { IfSome result (λ power. power.1 < 10 ^ most_exponent_digits) }
 {
     let Some((letter, rest)) = text.split_first() else {
         return Some((false, 0));

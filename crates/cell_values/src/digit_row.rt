@@ -4,6 +4,8 @@ ghost use Rattle.std.specs.Prelude.{◌≡◌, ◌+◌, ◌*◌, ◌^◌, ◌<�
 ghost use Rattle.std.specs.Char.{digit_value, is_ascii_digit};
 ghost use Rattle.std.specs.List.{list_all};
 ghost use Rattle.std.specs.Str.Parse.{digits_value, digits_value_after};
+ghost use Rattle.text_base.specs.Bytes.{zero_digit};
+ghost use Rattle.text_base.specs.Limits.{longest_number};
 ghost use Rattle.cell_values.specs.Decimal.{are_digits};
 
 /// Digits in a row, in two pieces.
@@ -13,23 +15,23 @@ pub(crate) struct Row<'a> {
     pub(crate) second: &'a [u8],
     ghost first_digits: { IsTrue (are_digits first.now) },
     ghost second_digits: { IsTrue (are_digits second.now) },
-    ghost short: { length first.now + length second.now ≤ 128 },
+    ghost short: { length first.now + length second.now ≤ longest_number },
 }
 
 impl Row<'_> {
-    ghost use Rattle.cell_values.specs.Parts.{is_zero, row_digits};
+    ghost use Rattle.cell_values.specs.inside.Parts.{is_zero, row_digits};
 
     /// How many digits there are.
     pub(crate) fn len(&self) -> usize
         ensures count { result ≡ length (row_digits self.now) }
-        ensures small { result ≤ 128 }
+        ensures small { result ≤ longest_number }
     {
         self.first.len() + self.second.len()
     }
 
     /// The digit at a place, and a zero behind the last one.
     pub(crate) fn digit(&self, place: usize) -> u8
-        ensures { result ≡ get_or (row_digits self.now) place 48 }
+        ensures { result ≡ get_or (row_digits self.now) place zero_digit }
     {
         if place < self.first.len() {
             self.first[place]
@@ -83,7 +85,7 @@ impl Row<'_> {
 
 // Whether each digit is a zero.
 fn has_only_zeros(digits: &[u8]) -> bool
-    ensures { result ≡ list_all (λ d. nat_eq d 48) digits.now }
+    ensures { result ≡ list_all (λ d. nat_eq d zero_digit) digits.now }
 {
     digits.iter().all(|d| *d == b'0')
 }

@@ -16,8 +16,7 @@ mod range;
 mod read;
 mod rounding;
 mod same;
-#[cfg(test)]
-mod tests;
+mod unit;
 mod word;
 
 pub use arithmetic::{add, div, int_div, int_mod, mul, sub};
@@ -26,7 +25,7 @@ pub use cells::Cells;
 pub use convert::to_kind;
 pub use decimal::{is_decimal, one_decimal};
 pub use kind::Kind;
-pub use print::print_cell;
+pub use print::{print_cell, written_texts_are_unique};
 pub use range::{fits, to_cell};
 pub use read::{one_cell, printed_reads_back, read_cell};
 pub use rounding::{one_nearest, round_div};

@@ -1,20 +1,21 @@
 //! The text of a cell.
 
 ghost use Rattle.std.specs.Prelude.{◌≡◌, ◌<◌, ◌++◌, ◌∷◌, length, take, OnOk, OnErr};
-ghost use Rattle.cell_values.specs.Printed.{six_digits, trimmed, millionths_text, printed_cell};
+ghost use Rattle.text_base.specs.Bytes.{point};
+ghost use Rattle.cell_values.specs.Units.{million};
+ghost use Rattle.cell_values.specs.Written.{WrittenTextsAreUnique};
+ghost use Rattle.cell_values.specs.inside.Printed.{six_digits, trimmed, millionths_text, printed_cell};
 
 use crate::cell::Cell;
 use crate::kind::Kind;
+use crate::unit::MILLION;
 use itoa::Buffer;
 use std::alloc::{AllocError, Global};
 
-/// How many millionths make one.
-const MILLION: u64 = 1_000_000;
-
 // A point and the six digits of a fraction.
 fn fraction_digits(fraction: u64) -> [u8; 7]
-    requires { fraction < 1000000 }
-    ensures { result ≡ 46 ∷ six_digits fraction }
+    requires { fraction < million }
+    ensures { result ≡ point ∷ six_digits fraction }
 {
     [
         b'.',
@@ -60,9 +61,9 @@ fn print_millionths(value: i64, into: &mut Vec<u8>) -> Result<(), AllocError>
 /// Appends the one text of a cell of a kind: `1e31` for a missing value, else a whole number, or for
 /// scalars and directions the shortest decimal of the millionths. A refusal leaves `into` as before.
 pub fn print_cell(
+    _alloc: Global,
     kind: Kind,
     cell: Cell,
-    _alloc: Global,
     into: &mut Vec<u8>,
 ) -> Result<(), AllocError>
     ensures ok { OnOk result (into.new.items ≡ into.old.items ++ printed_cell kind cell) }
@@ -86,39 +87,7 @@ pub fn print_cell(
     }
 }
 
-#[cfg(test)]
-mod tests {
-    use super::*;
-    use std::test::Fail;
-
-    #[test]
-    fn prints_each_kind(rt: HostRuntime) -> Result<(), Fail> {
-        for (kind, cell, text) in [
-            (Kind::Boolean, Cell::Val(1), "1"),
-            (Kind::Nominal, Cell::Val(-2_147_483_647), "-2147483647"),
-            (Kind::Ordinal, Cell::Val(0), "0"),
-            (Kind::Ldd, Cell::Val(9), "9"),
-            (Kind::Ldd, Cell::Mv, "1e31"),
-            (Kind::Scalar, Cell::Mv, "1e31"),
-            (Kind::Scalar, Cell::Val(0), "0"),
-            (Kind::Scalar, Cell::Val(100_000_000), "100"),
-            (Kind::Scalar, Cell::Val(3_500_000), "3.5"),
-            (Kind::Scalar, Cell::Val(-500_000), "-0.5"),
-            (Kind::Scalar, Cell::Val(-1), "-0.000001"),
-            (Kind::Scalar, Cell::Val(1_020_300), "1.0203"),
-            (
-                Kind::Scalar,
-                Cell::Val(9_000_000_000_000_000_000),
-                "9000000000000",
-            ),
-            (Kind::Directional, Cell::Val(359_999_999), "359.999999"),
-        ] {
-            let mut out = Vec::from_slice(rt.alloc(), b"> ")?;
-            print_cell(kind, cell, rt.alloc(), &mut out)?;
-            let (front, printed) = out.as_slice().split_at(2.min(out.len()));
-            assert_eq!(rt; front, b"> ".as_slice());
-            assert_eq!(rt; printed, text.as_bytes(), "for {text}");
-        }
-        Ok(())
-    }
-}
+/// A value of a kind has one written text, which is the one that is printed.
+pub fn written_texts_are_unique()
+    ensures { WrittenTextsAreUnique }
+{}

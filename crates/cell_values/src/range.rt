@@ -1,5 +1,5 @@
 ghost use Rattle.std.specs.Prelude.{◌≡◌, ◌↔◌, IsTrue};
-ghost use Rattle.cell_values.specs.Kinds.{IsValue, cell_of, greatest, least};
+ghost use Rattle.cell_values.specs.Kinds.{IsValue, cell_of_number, greatest, least};
 
 use crate::cell::{Cell, Over};
 use crate::kind::Kind;
@@ -27,7 +27,7 @@ pub fn fits(kind: Kind, value: i128) -> bool
 
 /// The cell of a number. `Over` comes exactly where it is no value of the kind.
 pub fn to_cell(kind: Kind, value: i128) -> Result<Cell, Over>
-    ensures { result ≡ cell_of kind value }
+    ensures { result ≡ cell_of_number kind value }
 {
     if fits(kind, value) {
         Ok(Cell::Val(value as i64))

@@ -1,12 +1,15 @@
 //! The value of a decimal text.
 
 ghost use Rattle.std.specs.Prelude.{◌≡◌, ◌↔◌, ◌*◌, ◌/◌, ◌^◌, ◌<◌, ◌≤◌, ℤ, pos, ◌*ℤ◌, unsigned_abs, List, ℕ, IfOk, if◌then◌else◌, ◌+◌, MatchOption, Ok, Some, ◌&&◌, get_or, nat_le};
+ghost use Rattle.text_base.specs.Bytes.{zero_digit};
+ghost use Rattle.cell_values.specs.Units.{decimal_places, million};
 ghost use Rattle.cell_values.specs.Decimal.{Decimal, IsDecimal, IsDecimalText, denominator, numerator, size_of, with_sign};
-ghost use Rattle.cell_values.specs.Parts.{IsBeyond, IsCut, decimal_with, row_digits};
+ghost use Rattle.cell_values.specs.inside.Parts.{IsBeyond, IsCut, decimal_with, row_digits};
 ghost use Rattle.cell_values.specs.Kinds.{IsValue};
-ghost use Rattle.cell_values.specs.Printed.{printed_cell};
+ghost use Rattle.cell_values.specs.inside.Printed.{printed_cell};
 ghost use Rattle.cell_values.specs.Rounding.{nearest};
-ghost use Rattle.cell_values.specs.Reading.{HasNoValue, HasValue, IsCellOf, cell_read, quotient, number_taken};
+ghost use Rattle.cell_values.specs.Reading.{HasNoValue, HasValue, IsCellOf};
+ghost use Rattle.cell_values.specs.inside.Reading.{cell_read, quotient, number_taken};
 
 use crate::cell::{Cell, NumberFault};
 use crate::decimal::Parts;
@@ -41,14 +44,14 @@ fn with_zeros(number: u64, zeros: usize) -> Option<u64>
 
 // Whether the digits behind a cut are a half or more, where the cut stands behind `fallen` of `top` places.
 fn half_behind(back: &Row<'_>, fallen: usize, top: usize) -> bool
-    ensures { result ≡ (nat_le fallen top && nat_le 53 (get_or (row_digits back.now) 0 48)) }
+    ensures { result ≡ (nat_le fallen top && nat_le (zero_digit + 5) (get_or (row_digits back.now) 0 zero_digit)) }
 {
     fallen <= top && b'5' <= back.digit(0)
 }
 
 // The size of a decimal in units of 10 to the power of `-places`, where the whole units have at most 64 bits.
 fn cut_at(parts: &Parts<'_>, places: usize) -> Option<Cut>
-    requires { places ≤ 6 }
+    requires { places ≤ decimal_places }
     ensures { let d = decimal_with parts.now in MatchOption result
         (2 ^ 64 ≤ 10 ^ places * size_of d / denominator d)
         (λ cut. IsCut (10 ^ places * size_of d) (denominator d) cut) }
@@ -82,8 +85,8 @@ fn signed(negative: bool, size: u64, more: bool) -> i128
 // The nearest number of millionths, unless it is beyond 64 bits.
 fn nearest_in(parts: &Parts<'_>) -> Option<i128>
     ensures { let d = decimal_with parts.now in MatchOption result
-        (2 ^ 64 ≤ unsigned_abs (nearest (pos 1000000 *ℤ numerator d) (denominator d)))
-        (λ z. nearest (pos 1000000 *ℤ numerator d) (denominator d) ≡ z) }
+        (2 ^ 64 ≤ unsigned_abs (nearest (pos million *ℤ numerator d) (denominator d)))
+        (λ z. nearest (pos million *ℤ numerator d) (denominator d) ≡ z) }
 {
     let Some(cut) = cut_at(parts, PLACES) else {
         return None;

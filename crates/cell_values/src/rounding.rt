@@ -52,20 +52,3 @@ pub(crate) fn round_quotient(n: i128, d: i128) -> i128
 pub fn one_nearest()
     ensures { (n : ℤ) (d : ℕ) (q : ℤ) → 0 < d → IsNearest n (pos d) q ↔ (q ≡ nearest n d) }
 {}
-
-#[cfg(test)]
-mod tests {
-    use super::*;
-
-    #[test]
-    fn rounds_ties_away_from_zero(rt: HostRuntime) {
-        assert_eq!(rt; round_div(5, 2), 3);
-        assert_eq!(rt; round_div(-5, 2), -3);
-        assert_eq!(rt; round_div(4, 3), 1);
-        assert_eq!(rt; round_div(-5, 3), -2);
-        assert_eq!(rt; round_div(0, 7), 0);
-        let most = 100_000_000_000_000_000_000_000_000_000_000_000_000;
-        assert_eq!(rt; round_div(-most, 1), -most);
-        assert_eq!(rt; round_div(most, i128::MAX), 1);
-    }
-}

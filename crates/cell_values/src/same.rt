@@ -1,9 +1,11 @@
 //! Whether two decimals have one exact value.
 
 ghost use Rattle.std.specs.Prelude.{◌≡◌, ◌↔◌, ◌*◌, ◌<◌, IsTrue, IsSome, Some, ◌==◌};
-ghost use Rattle.cell_values.specs.Decimal.{Decimal, IsDecimal, decimal_of, denominator, size_of};
-ghost use Rattle.cell_values.specs.Parts.{IsWithin, decimal_with, digit_behind, row_digits};
-ghost use Rattle.cell_values.specs.Reading.{HasSameValue, same_value};
+ghost use Rattle.cell_values.specs.Decimal.{Decimal, IsDecimal, denominator, size_of};
+ghost use Rattle.cell_values.specs.inside.Reading.{decimal_of};
+ghost use Rattle.cell_values.specs.inside.Parts.{IsRowWithin, decimal_with, digit_behind, row_digits};
+ghost use Rattle.cell_values.specs.Reading.{HasSameValue};
+ghost use Rattle.cell_values.specs.inside.Reading.{same_value};
 
 use crate::decimal::Parts;
 use crate::digit_row::Row;
@@ -22,7 +24,7 @@ fn digit_from(row: &Row<'_>, start: usize, place: usize) -> u8
 // Whether each digit of a row stands at its place in another, where they begin at `start` and `other_start`.
 fn is_within(row: &Row<'_>, start: usize, other: &Row<'_>, other_start: usize) -> bool
     requires { start < 4000000 }
-    ensures { IsTrue result ↔ IsWithin (row_digits row.now) start (row_digits other.now) other_start }
+    ensures { IsTrue result ↔ IsRowWithin (row_digits row.now) start (row_digits other.now) other_start }
 {
     for i in 0..row.len() {
         if row.digit(i) != digit_from(other, other_start, i + start) {

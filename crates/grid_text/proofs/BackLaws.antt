@@ -12,25 +12,22 @@ use Rattle.cell_values.specs.declared.cell.Cell.{Cell}
 use Rattle.cell_values.specs.declared.cell.Cell.TheVariants.{Mv, Val}
 use Rattle.cell_values.specs.declared.kind.Kind.{Kind}
 use Rattle.cell_values.specs.Kinds.{IsCell}
-use Rattle.cell_values.specs.Decimal.{Decimal, decimal_of, IsDecimalText}
-use Rattle.cell_values.specs.Printed.{printed_cell}
-use Rattle.cell_values.specs.Reading.{same_value}
-use Rattle.cell_values.proofs.Alike.{same_value-means}
-use Rattle.cell_values.proofs.DecimalLaws.{text-from_some, some-from_text}
-use Rattle.cell_values.proofs.PrintedBack.{printed-back}
-use Rattle.cell_values.proofs.PrintedTokens.{decimal-visible, decimal-some, missing_decimal, decimal-missing, printed-decimal, printed-not_missing}
+use Rattle.cell_values.specs.Decimal.{Decimal, IsDecimalText}
+use Rattle.cell_values.specs.inside.Reading.{decimal_of}
+use Rattle.cell_values.specs.inside.Printed.{printed_cell}
+use Rattle.cell_values.specs.inside.Reading.{same_value}
+use Rattle.cell_values.proofs.Callers.{decimal-missing, decimal-some, decimal-visible, missing_decimal, printed-back, printed-decimal, printed-not_missing, same_value-means, some-from_text, text-from_some}
 use Rattle.grid_text.specs.declared.key.Key.{Key}
 use Rattle.grid_text.specs.declared.key.Key.TheVariants.{Cols, Rows, X, Y, Size, Nodata}
 use Rattle.grid_text.specs.declared.grid.Grid.{Grid}
 use Rattle.grid_text.specs.declared.grid.Head.{Head}
-use Rattle.grid_text.specs.Tokens.{Token, is_blank, tokens_from, tokens}
+use Rattle.text_base.specs.Tokens.{Token, tokens_at, tokens}
+use Rattle.text_base.specs.Bytes.{is_blank}
 use Rattle.grid_text.specs.Key.{is_word, key_of, is_center, above_zero, side_of, is_positive, is_coordinate, is_cell_size, is_nodata}
-use Rattle.grid_text.specs.Form.{Pair, pair_tokens, names, is_pair_of, pairs_of, values_of, may_stand, is_pair, ends_pairs, placed, nodata_of, IsSize, IsHead, both_decimals, is_missing, cell_of, IsGrid}
+use Rattle.grid_text.specs.Form.{Pair, tokens_of_pairs, names, is_pair_of, pairs_of, values_of, may_stand, is_head_pair, ends_pairs, placed, nodata_of, IsSize, IsHead, both_decimals, is_missing, cell_of_token, IsGrid}
 use Rattle.grid_text.specs.Written.{key_line, head_lines, behind_cell, row_line, row_lines, written_grid, text_of, AreGridValues, WrittenGridsReadBack}
-use Rattle.grid_text.specs.Steps.{is_token_byte}
-use Rattle.grid_text.proofs.Tools.{bool_cases, option_cases, ok_is, head_is, tail_is}
-use Rattle.grid_text.proofs.TokenLaws.{IsToken, blank_front, tokens_from_run}
-use Rattle.grid_text.proofs.WordLaws.{digits_token, decimal_digits, decimal_number}
+use Rattle.text_base.specs.inside.Steps.{is_token_byte}
+use Rattle.text_base.proofs.Callers.{IsTokenWord, bool_cases, decimal_digits, digits_token, head_is, ok_is, option_cases, tail_is, tokens_at-blank, tokens_at-run, whole_number_of-decimal}
 use Rattle.grid_text.proofs.ValueLaws.{word_none, nodata_missing, cell_missing, cell_there}
 use Rattle.grid_text.proofs.Laws.{keyed_of, grid_is}
 
@@ -41,47 +38,47 @@ visible b above =
     let other = λ (k : ℕ) (low : k < 33). ne_eqb b k (λ (e : b ≡ k). omega (arith, e, above, low)) in
     rw (other 32 (lit< tt), other 9 (lit< tt), other 13 (lit< tt), other 10 (lit< tt)) refl
 
-decimal_token : (word : List ℕ) → IsDecimalText word → IsToken word
+decimal_token : (word : List ℕ) → IsDecimalText word → IsTokenWord word
 decimal_token word d = record { some = decimal-some word d; bytes = decimal-visible is_token_byte visible word d }
 
-some_token : (word : List ℕ) → is_some (decimal_of word) ≡ true → IsToken word
+some_token : (word : List ℕ) → is_some (decimal_of word) ≡ true → IsTokenWord word
 some_token word e = decimal_token word (text-from_some word e)
 
 positive_some : (o : Option Decimal) → is_positive o ≡ true → is_some o ≡ true
 positive_some None e = absurd (cc)
 positive_some (Some d) e = refl
 
-coordinate_token : (word : List ℕ) → is_coordinate word ≡ true → IsToken word
+coordinate_token : (word : List ℕ) → is_coordinate word ≡ true → IsTokenWord word
 coordinate_token word e = some_token word (and_parts (nat_le (length word) 64) (is_some (decimal_of word)) e).1
 
-size_token : (word : List ℕ) → is_cell_size word ≡ true → IsToken word
+size_token : (word : List ℕ) → is_cell_size word ≡ true → IsTokenWord word
 size_token word e = some_token word (positive_some (decimal_of word) (and_parts (nat_le (length word) 64) (is_positive (decimal_of word)) e).1)
 
 -- ---- the words of a text
 
 -- the words of these bytes, wherever they stand
 pub record HasWords (bytes : List ℕ) (words : List (List ℕ)) : Type 0 where
-  found : (at : ℕ) → map (λ (t : Token). t.bytes) (tokens_from at bytes) ≡ words
+  found : (at : ℕ) → map (λ (t : Token). t.bytes) (tokens_at at bytes) ≡ words
 
 no_words : HasWords [] []
 no_words = record { found = λ at. refl }
 
 -- a word and a blank in front
-word_front : (word rest : List ℕ) (blank : ℕ) (words : List (List ℕ)) → IsToken word → is_blank blank ≡ true → HasWords rest words → HasWords (word ++ blank ∷ rest) (word ∷ words)
+word_front : (word rest : List ℕ) (blank : ℕ) (words : List (List ℕ)) → IsTokenWord word → is_blank blank ≡ true → HasWords rest words → HasWords (word ++ blank ∷ rest) (word ∷ words)
 word_front [] rest blank words t b h = absurd (omega (arith, t.some))
 word_front (c ∷ cs) rest blank words t b h = record {
   found = λ at.
-      ap (map (λ (w : Token). w.bytes)) (tokens_from_run at c cs (blank ∷ rest) t.bytes b)
-      ∙ ap (λ ws. (c ∷ cs) ∷ ws) (ap (map (λ (w : Token). w.bytes)) (blank_front (at + suc (length cs)) blank rest b) ∙ h.found (at + suc (length cs) + 1));
+      ap (map (λ (w : Token). w.bytes)) (tokens_at-run at c cs (blank ∷ rest) t.bytes b)
+      ∙ ap (λ ws. (c ∷ cs) ∷ ws) (ap (map (λ (w : Token). w.bytes)) (tokens_at-blank (at + suc (length cs)) blank rest b) ∙ h.found (at + suc (length cs) + 1));
 }
 
-line_front : (key value rest : List ℕ) (words : List (List ℕ)) → IsToken key → IsToken value → HasWords rest words → HasWords (key_line key value ++ rest) (key ∷ value ∷ words)
+line_front : (key value rest : List ℕ) (words : List (List ℕ)) → IsTokenWord key → IsTokenWord value → HasWords rest words → HasWords (key_line key value ++ rest) (key ∷ value ∷ words)
 line_front key value rest words k v h =
     subst (λ bytes. HasWords bytes (key ∷ value ∷ words)) (sym (append_assoc key (32 ∷ (value ++ 10 ∷ [])) rest ∙ ap (λ (more : List ℕ). key ++ 32 ∷ more) (append_assoc value (10 ∷ []) rest)))
     (word_front key (value ++ 10 ∷ rest) 32 (value ∷ words) k refl (word_front value rest 10 words v refl h))
 
 -- a line of several
-lines_front : (key value more rest : List ℕ) (words : List (List ℕ)) → IsToken key → IsToken value → HasWords (more ++ rest) words → HasWords ((key_line key value ++ more) ++ rest) (key ∷ value ∷ words)
+lines_front : (key value more rest : List ℕ) (words : List (List ℕ)) → IsTokenWord key → IsTokenWord value → HasWords (more ++ rest) words → HasWords ((key_line key value ++ more) ++ rest) (key ∷ value ∷ words)
 lines_front key value more rest words k v h = subst (λ bytes. HasWords bytes (key ∷ value ∷ words)) (sym (append_assoc (key_line key value) more rest)) (line_front key value (more ++ rest) words k v h)
 
 -- ---- the words of the rows
@@ -120,7 +117,7 @@ abbrev flat : List (List ℕ × List ℕ) → List (List ℕ)
 flat [] = []
 flat (kv ∷ kvs) = kv.0 ∷ kv.1 ∷ flat kvs
 
-center_token : (center : Bool) (one other : List ℕ) → IsToken one → IsToken other → IsToken (cond center one other)
+center_token : (center : Bool) (one other : List ℕ) → IsTokenWord one → IsTokenWord other → IsTokenWord (cond center one other)
 center_token true one other a b = a
 center_token false one other a b = b
 
@@ -146,7 +143,7 @@ head_words rows cols h rest words few_rows few_cols x y size found =
 record Split (kvs : List (List ℕ × List ℕ)) (words : List (List ℕ)) (ts : List Token) : Type 0 where
   pairs : List Pair
   rest : List Token
-  parts : ts ≡ pair_tokens pairs ++ rest
+  parts : ts ≡ tokens_of_pairs pairs ++ rest
   front : map (λ (p : Pair). (p.word.bytes, p.value.bytes)) pairs ≡ kvs
   back : map (λ (t : Token). t.bytes) rest ≡ words
 
@@ -194,7 +191,7 @@ placed_words kv = (is_center kv.0, kv.1)
 placed_named : (key : Key) (pairs : List Pair) (kvs found : List (List ℕ × List ℕ)) → map (λ (p : Pair). (p.word.bytes, p.value.bytes)) pairs ≡ kvs → named key kvs ≡ found → map placed (pairs_of key pairs) ≡ map placed_words found
 placed_named key pairs kvs found e n = map_map (λ (p : Pair). (p.word.bytes, p.value.bytes)) placed_words (pairs_of key pairs) ∙ ap (map placed_words) (named_pairs key pairs ∙ ap (named key) e ∙ n)
 
-valued_words : (pairs : List Pair) (kvs : List (List ℕ × List ℕ)) → map (λ (p : Pair). (p.word.bytes, p.value.bytes)) pairs ≡ kvs → list_all (λ kv. may_stand (key_of kv.0) kv.1) kvs ≡ true → list_all is_pair pairs ≡ true
+valued_words : (pairs : List Pair) (kvs : List (List ℕ × List ℕ)) → map (λ (p : Pair). (p.word.bytes, p.value.bytes)) pairs ≡ kvs → list_all (λ kv. may_stand (key_of kv.0) kv.1) kvs ≡ true → list_all is_head_pair pairs ≡ true
 valued_words [] kvs e all = refl
 valued_words (p ∷ ps) [] e all = absurd (cc)
 valued_words (p ∷ ps) (kv ∷ kvs) e all =
@@ -237,7 +234,7 @@ missing_stands = refl
 written_side : (n : ℕ) → 0 < n → n ≤ 4194304 → side_of (decimal n) ≡ Some n
 unfolding side_of
 written_side n some few =
-    ap (option_and_then above_zero) (decimal_number 7 n (lit< tt) (omega (arith, few)) (omega (arith, few)))
+    ap (option_and_then above_zero) (whole_number_of-decimal 7 n (lit< tt) (omega (arith, few)) (omega (arith, few)))
     ∙ ap (λ b. cond b (Some n) None) (lt-ltb 0 n some)
 
 pairs_stand : (rows cols : ℕ) (h : Head) → side_of (decimal rows) ≡ Some rows → side_of (decimal cols) ≡ Some cols → is_coordinate h.x ≡ true → is_coordinate h.y ≡ true → is_cell_size h.size ≡ true → list_all (λ kv. may_stand (key_of kv.0) kv.1) (head_pairs rows cols h) ≡ true
@@ -277,17 +274,17 @@ value_there kind z is =
     let apart : same_value d missing_decimal ≡ false = printed-not_missing kind z d is found in absurd (cc))))
     refl
 
-cell_back : (kind : Kind) (cell : Cell) → IsCell kind cell → cell_of kind (codes "1e31") (printed_cell kind cell) ≡ Ok cell
+cell_back : (kind : Kind) (cell : Cell) → IsCell kind cell → cell_of_token kind (codes "1e31") (printed_cell kind cell) ≡ Ok cell
 cell_back kind Mv is = sym (cell_missing kind (codes "1e31") (codes "1e31") (nodata_missing (codes "1e31") missing_stands))
 cell_back kind (Val z) is = sym (cell_there kind (codes "1e31") (printed_cell kind (Val z)) (value_there kind z is)) ∙ printed-back kind z is
 
-cells_back : (kind : Kind) (cells : List Cell) (ts : List Token) → All (IsCell kind) cells → map (λ (t : Token). t.bytes) ts ≡ map (printed_cell kind) cells → map (λ (t : Token). cell_of kind (codes "1e31") t.bytes) ts ≡ map (λ (c : Cell). Ok c) cells
+cells_back : (kind : Kind) (cells : List Cell) (ts : List Token) → All (IsCell kind) cells → map (λ (t : Token). t.bytes) ts ≡ map (printed_cell kind) cells → map (λ (t : Token). cell_of_token kind (codes "1e31") t.bytes) ts ≡ map (λ (c : Cell). Ok c) cells
 cells_back kind [] [] are e = refl
 cells_back kind [] (t ∷ ts) are e = absurd (cc)
 cells_back kind (cell ∷ cells) [] are e = absurd (cc)
 cells_back kind (cell ∷ cells) (t ∷ ts) are e =
-    let first : cell_of kind (codes "1e31") t.bytes ≡ Ok cell = ap (cell_of kind (codes "1e31")) (head_is _ _ _ _ e) ∙ cell_back kind cell (All-head (IsCell kind) cell cells are) in
-    ap (λ r. r ∷ map (λ (u : Token). cell_of kind (codes "1e31") u.bytes) ts) first ∙ ap (λ rs. Ok cell ∷ rs) (cells_back kind cells ts (All-tail (IsCell kind) cell cells are) (tail_is _ _ _ _ e))
+    let first : cell_of_token kind (codes "1e31") t.bytes ≡ Ok cell = ap (cell_of_token kind (codes "1e31")) (head_is _ _ _ _ e) ∙ cell_back kind cell (All-head (IsCell kind) cell cells are) in
+    ap (λ r. r ∷ map (λ (u : Token). cell_of_token kind (codes "1e31") u.bytes) ts) first ∙ ap (λ rs. Ok cell ∷ rs) (cells_back kind cells ts (All-tail (IsCell kind) cell cells are) (tail_is _ _ _ _ e))
 
 -- a printed cell is no key word, for it is a decimal
 no_word : (c : ℕ) (cs text : List ℕ) → IsDecimalText text → 64 < to_ascii_lowercase c → is_word (c ∷ cs) text ≡ false

@@ -5,10 +5,11 @@ use Rattle.cell_values.specs.declared.kind.Kind.{Kind}
 use Rattle.cell_values.specs.declared.cell.Cell.{Cell}
 use Rattle.grid_text.specs.declared.fault.GridFault.{GridFault}
 use Rattle.grid_text.specs.declared.fault.GridKind.TheVariants as kinds
-use Rattle.grid_text.specs.Tokens.{Token}
-use Rattle.grid_text.specs.Form.{cell_of}
+use Rattle.text_base.specs.Tokens.{Token}
+use Rattle.grid_text.specs.Form.{cell_of_token}
 use Rattle.grid_text.specs.Faults.{fault_at}
-use Rattle.grid_text.specs.Reading.{◌>>=◌, told_at, cells_from}
+use Rattle.text_base.specs.Results.{◌>>=◌}
+use Rattle.grid_text.specs.inside.Reading.{cell_or_fault_at, cells_from}
 
 -- cells that were read, before those that are still read
 abbrev pub before : List Cell → Result (List Cell) GridFault → Result (List Cell) GridFault
@@ -29,14 +30,14 @@ module _ (kind : Kind) (nodata : List ℕ) (text_len : ℕ) (front : List Cell) 
   so_far_at : (n : ℕ) (ts : List Token) → count - i ≡ n → words ≡ ts → before front (cells_from kind nodata text_len n ts) ≡ total
   so_far_at n ts many are = sym (ap (λ k. before front (cells_from kind nodata text_len k words)) many ∙ ap (λ us. before front (cells_from kind nodata text_len n us)) are) ∙ so_far
 
-  pub cell_read_on : (token : Token) (more : List Token) (cell : Cell) → i < count → words ≡ token ∷ more → told_at token.at (cell_of kind nodata token.bytes) ≡ Ok cell → before (front ++ cell ∷ []) (cells_from kind nodata text_len (count - (i + 1)) more) ≡ total
+  pub cell_read_on : (token : Token) (more : List Token) (cell : Cell) → i < count → words ≡ token ∷ more → cell_or_fault_at token.at (cell_of_token kind nodata token.bytes) ≡ Ok cell → before (front ++ cell ∷ []) (cells_from kind nodata text_len (count - (i + 1)) more) ≡ total
   unfolding cells_from
   cell_read_on token more cell lt first told =
       sym (regroup front cell (cells_from kind nodata text_len (count - (i + 1)) more))
       ∙ sym (ap (λ r. before front (r >>= λ c. cells_from kind nodata text_len (count - (i + 1)) more >>= λ cells. Ok (c ∷ cells))) told)
       ∙ so_far_at (suc (count - (i + 1))) (token ∷ more) (left count i lt) first
 
-  pub cell_refused : (token : Token) (more : List Token) (f : GridFault) → i < count → words ≡ token ∷ more → told_at token.at (cell_of kind nodata token.bytes) ≡ Err f → total ≡ Err f
+  pub cell_refused : (token : Token) (more : List Token) (f : GridFault) → i < count → words ≡ token ∷ more → cell_or_fault_at token.at (cell_of_token kind nodata token.bytes) ≡ Err f → total ≡ Err f
   unfolding cells_from
   cell_refused token more f lt first told =
       sym (so_far_at (suc (count - (i + 1))) (token ∷ more) (left count i lt) first)

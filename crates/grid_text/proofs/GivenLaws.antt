@@ -8,13 +8,14 @@ use Rattle.grid_text.specs.declared.key.Key.{Key}
 use Rattle.grid_text.specs.declared.key.Key.TheVariants.{Cols, Rows, X, Y, Size, Nodata}
 use Rattle.grid_text.specs.declared.fault.GridFault.{GridFault}
 use Rattle.grid_text.specs.declared.fault.GridKind.TheVariants as kinds
-use Rattle.grid_text.specs.Tokens.{Token}
+use Rattle.text_base.specs.Tokens.{Token}
 use Rattle.grid_text.specs.Key.{key_of, same_key, is_center, side_of, is_coordinate, is_cell_size, is_nodata}
 use Rattle.grid_text.specs.Form.{Pair, pairs_of, values_of, placed, nodata_of}
 use Rattle.grid_text.specs.Faults.{fault_at, side_before, are_too_many}
-use Rattle.grid_text.specs.Reading.{◌>>=◌, is_filled, is_taken, pair_taken, word_alone, pairs_from, first_or, some_or, front_of}
-use Rattle.grid_text.specs.Steps.{Values, AreValues, has_come, side_beside, where_good, place_given, with_value, front_given}
-use Rattle.grid_text.proofs.Tools.{bool_cases, some_is}
+use Rattle.text_base.specs.Results.{◌>>=◌}
+use Rattle.grid_text.specs.inside.Reading.{is_filled, is_taken, pair_taken, word_alone, pairs_from, first_or, some_or, heading_of}
+use Rattle.grid_text.specs.inside.Steps.{Values, AreValues, has_come, side_beside, where_good, place_given, with_value, heading_given}
+use Rattle.text_base.proofs.Callers.{bool_cases, some_is}
 use Rattle.grid_text.proofs.Pairs.{pairs_of-push_same, pairs_of-push_other, taken_says}
 use Rattle.grid_text.proofs.Heads.{pair_read}
 
@@ -235,8 +236,8 @@ bind_nodata fault (v ∷ vs) None k e = absurd (cc)
 bind_nodata fault (v ∷ []) (Some w) k e = ap k (cc)
 bind_nodata fault (v ∷ w ∷ vs) (Some x) k e = absurd (cc)
 
-pub front_values : (fault : GridFault) (pairs : List Pair) (given : Values) → AreValues pairs given → front_of fault pairs ≡ front_given fault given
-unfolding front_of front_given
+pub front_values : (fault : GridFault) (pairs : List Pair) (given : Values) → AreValues pairs given → heading_of fault pairs ≡ heading_given fault given
+unfolding heading_of heading_given
 front_values fault pairs given h =
     bind_side fault (values_of Cols pairs) given.cols _ h.cols ∙ bind_same (ok_or given.cols fault) _ _ (λ cols.
     bind_side fault (values_of Rows pairs) given.rows _ h.rows ∙ bind_same (ok_or given.rows fault) _ _ (λ rows.

@@ -8,15 +8,15 @@ use Rattle.std.proofs.lemmas.Bool.{and_parts, and_from, and_cases, not-false}
 use Rattle.grid_text.specs.declared.key.Key.{Key}
 use Rattle.grid_text.specs.declared.fault.GridFault.{GridFault}
 use Rattle.grid_text.specs.declared.fault.GridKind.TheVariants as kinds
-use Rattle.grid_text.specs.Tokens.{Token}
+use Rattle.text_base.specs.Tokens.{Token}
 use Rattle.grid_text.specs.Key.{key_of, is_value_of}
-use Rattle.grid_text.specs.Form.{Pair, pair_tokens, pairs_of, ends_pairs}
+use Rattle.grid_text.specs.Form.{Pair, tokens_of_pairs, pairs_of, ends_pairs}
 use Rattle.grid_text.specs.Faults.{fault_at, place_of, is_too_large, HeadFault, Again, NoValue, TooLarge, Lacking, Alone}
-use Rattle.grid_text.specs.Reading.{is_filled, is_taken, pair_taken, word_alone, pairs_from}
-use Rattle.grid_text.proofs.Tools.{option_cases, bool_cases, ok_is, err_is, some_is, head_is, tail_is, not_filled, filled_or_not, filled}
+use Rattle.grid_text.specs.inside.Reading.{is_filled, is_taken, pair_taken, word_alone, pairs_from}
+use Rattle.text_base.proofs.Callers.{InOrder, bool_cases, err_is, head_is, ok_is, option_cases, order_behind, order_end, some_is, tail_is}
+use Rattle.grid_text.proofs.Tools.{not_filled, filled_or_not, filled}
 use Rattle.grid_text.proofs.Pairs.{taken_says, ends_at}
 use Rattle.grid_text.proofs.Heads.{ended_is, Lacks}
-use Rattle.grid_text.proofs.Order.{InOrder, order_end, order_behind}
 
 -- one fault stands before the other, or they are one
 abbrev pub Apart : GridFault → GridFault → Type 0
@@ -84,7 +84,7 @@ module _ (text_len : ℕ) where
   pub record FailsAt (before : List Pair) (tokens : List Token) (f : GridFault) : Type 0 where
     pub more : List Pair
     pub rest : List Token
-    pub parts : tokens ≡ pair_tokens more ++ rest
+    pub parts : tokens ≡ tokens_of_pairs more ++ rest
     pub keyed : Keyed more
     pub fault : HeadFault text_len (before ++ more) rest f
 
@@ -182,9 +182,9 @@ module _ (text_len : ℕ) where
   value_apart before word value more key f g is new told (Alone w k parts is2 at) = absurd (cc)
 
   -- a fault behind this pair stands behind the place
-  behind_apart : (word value : Token) (tokens : List Token) (more : List Pair) (rest : List Token) (pairs : List Pair) (f g : GridFault) → InOrder (value.at + 1) text_len tokens → tokens ≡ pair_tokens more ++ rest → f.at ≤ value.at → HeadFault text_len pairs rest g → Apart f g
+  behind_apart : (word value : Token) (tokens : List Token) (more : List Pair) (rest : List Token) (pairs : List Pair) (f g : GridFault) → InOrder (value.at + 1) text_len tokens → tokens ≡ tokens_of_pairs more ++ rest → f.at ≤ value.at → HeadFault text_len pairs rest g → Apart f g
   behind_apart word value tokens more rest pairs f g order parts before fault =
-      let behind : InOrder (value.at + 1) text_len rest = order_behind (value.at + 1) text_len (pair_tokens more) rest (subst (InOrder (value.at + 1) text_len) parts order) in
+      let behind : InOrder (value.at + 1) text_len rest = order_behind (value.at + 1) text_len (tokens_of_pairs more) rest (subst (InOrder (value.at + 1) text_len) parts order) in
       let place : value.at + 1 ≤ g.at = fault_behind (value.at + 1) pairs rest g behind fault in
       inl (omega arith)
 
@@ -196,7 +196,7 @@ module _ (text_len : ℕ) where
   same_pair q p w v = ap (λ (x : Token). let r : Pair = record { word = x; value = q.value } in r) w ∙ ap (λ (x : Token). let r : Pair = record { word = p.word; value = x } in r) v
 
   pub head_first : (from : ℕ) (before : List Pair) (tokens : List Token) (f : GridFault) (more : List Pair) (rest : List Token) (g : GridFault)
-      → InOrder from text_len tokens → pairs_from text_len before tokens ≡ Err f → tokens ≡ pair_tokens more ++ rest → HeadFault text_len (before ++ more) rest g → Apart f g
+      → InOrder from text_len tokens → pairs_from text_len before tokens ≡ Err f → tokens ≡ tokens_of_pairs more ++ rest → HeadFault text_len (before ++ more) rest g → Apart f g
   unfolding pairs_from
   head_first from before [] f more rest g order e parts fault = absurd (cc)
   head_first from before (word ∷ []) f [] rest g order e parts fault =
@@ -221,7 +221,7 @@ module _ (text_len : ℕ) where
   head_first from before (word ∷ value ∷ tokens) f (q ∷ more) rest g order e parts fault =
       let p : Pair = record { word = word; value = value } in
       let next : Result (List Pair × List Token) GridFault = pairs_from text_len (before ++ p ∷ []) tokens in
-      let others : tokens ≡ pair_tokens more ++ rest = tail_is _ _ _ _ (tail_is _ _ _ _ parts) in
+      let others : tokens ≡ tokens_of_pairs more ++ rest = tail_is _ _ _ _ (tail_is _ _ _ _ parts) in
       option_cases (key_of word.bytes)
       (λ none. let bad = sym (ap (λ o. pair_taken before word value tokens o next) none) ∙ e in absurd (cc))
       (λ key is. let told : pair_taken before word value tokens (Some key) next ≡ Err f = sym (ap (λ o. pair_taken before word value tokens o next) is) ∙ e in
@@ -257,7 +257,7 @@ module _ (text_len : ℕ) where
       (λ bad. let bad2 = sym (ap (λ b. cond b next (Err (fault_at kinds.Head value.at))) bad) ∙ told2 in absurd (cc)))
 
   pub read_lacks : (before : List Pair) (tokens : List Token) (all : List Pair) (stop : List Token) (more : List Pair) (rest : List Token) (g : GridFault)
-      → pairs_from text_len before tokens ≡ Ok (all, stop) → tokens ≡ pair_tokens more ++ rest → Keyed more → HeadFault text_len (before ++ more) rest g → Lacks all (fault_at kinds.Head (place_of text_len stop)) g
+      → pairs_from text_len before tokens ≡ Ok (all, stop) → tokens ≡ tokens_of_pairs more ++ rest → Keyed more → HeadFault text_len (before ++ more) rest g → Lacks all (fault_at kinds.Head (place_of text_len stop)) g
   unfolding pairs_from
   read_lacks before [] all stop [] rest g e parts keyed fault = stop_lacks before [] all stop rest g refl e parts fault
   read_lacks before [] all stop (q ∷ more) rest g e parts keyed fault = absurd (cc)
@@ -276,7 +276,7 @@ module _ (text_len : ℕ) where
   read_lacks before (word ∷ value ∷ tokens) all stop (q ∷ more) rest g e parts keyed fault =
       let p : Pair = record { word = word; value = value } in
       let next : Result (List Pair × List Token) GridFault = pairs_from text_len (before ++ p ∷ []) tokens in
-      let others : tokens ≡ pair_tokens more ++ rest = tail_is _ _ _ _ (tail_is _ _ _ _ parts) in
+      let others : tokens ≡ tokens_of_pairs more ++ rest = tail_is _ _ _ _ (tail_is _ _ _ _ parts) in
       let q_is : q ≡ p = same_pair q p (sym (head_is _ _ _ _ parts)) (sym (head_is _ _ _ _ (tail_is _ _ _ _ parts))) in
       let parts_keyed = and_parts (is_some (key_of q.word.bytes)) (list_all (λ (pair : Pair). is_some (key_of pair.word.bytes)) more) keyed in
       option_cases (key_of word.bytes)

@@ -13,13 +13,14 @@ use Rattle.grid_text.specs.declared.key.Key.TheVariants.{Cols, Rows, X, Y, Size,
 use Rattle.grid_text.specs.declared.grid.Head.{Head}
 use Rattle.grid_text.specs.declared.fault.GridFault.{GridFault}
 use Rattle.grid_text.specs.declared.fault.GridKind.TheVariants as kinds
-use Rattle.grid_text.specs.Tokens.{Token}
-use Rattle.grid_text.specs.Number.{number_of}
+use Rattle.text_base.specs.Tokens.{Token}
+use Rattle.text_base.specs.Numbers.{whole_number_of}
 use Rattle.grid_text.specs.Key.{key_of, is_required, is_value_of, above_zero, side_of}
-use Rattle.grid_text.specs.Form.{Pair, pair_tokens, names, is_pair_of, pairs_of, values_of, may_stand, is_pair, ends_pairs, placed, nodata_of, IsHead}
+use Rattle.grid_text.specs.Form.{Pair, tokens_of_pairs, names, is_pair_of, pairs_of, values_of, may_stand, is_head_pair, ends_pairs, placed, nodata_of, IsHead}
 use Rattle.grid_text.specs.Faults.{fault_at, side_before, are_too_many, is_too_large}
-use Rattle.grid_text.specs.Reading.{is_filled, is_taken, pair_taken, word_alone, pairs_from, Front, first_or, some_or, front_of}
-use Rattle.grid_text.proofs.Tools.{option_cases, bool_cases, bind_gives, bind_fails, ok_is, err_is, some_is, head_is, one_of, one_long, nothing_before}
+use Rattle.grid_text.specs.inside.Reading.{is_filled, is_taken, pair_taken, word_alone, pairs_from, Heading, first_or, some_or, heading_of}
+use Rattle.text_base.proofs.Callers.{option_cases, bool_cases, bind_gives, bind_fails, ok_is, err_is, some_is, head_is}
+use Rattle.grid_text.proofs.Tools.{one_of, one_long, nothing_before}
 use Rattle.grid_text.proofs.Pairs.{IsFine, same_key-true, pairs_of-same}
 
 -- ---- what a head has
@@ -107,20 +108,20 @@ pair_read text_len before p rest key is new good small =
     ∙ ap (λ b. cond b next (Err (fault_at kinds.Head p.value.at))) taken
 
 -- the key of a pair
-key_is : {P : Type 0} (p : Pair) → is_pair p ≡ true → ((key : Key) → key_of p.word.bytes ≡ Some key → is_value_of key p.value.bytes ≡ true → P) → P
+key_is : {P : Type 0} (p : Pair) → is_head_pair p ≡ true → ((key : Key) → key_of p.word.bytes ≡ Some key → is_value_of key p.value.bytes ≡ true → P) → P
 key_is p valued k = option_cases (key_of p.word.bytes)
     (λ none. let bad : may_stand None p.value.bytes ≡ true = sym (ap (λ o. may_stand o p.value.bytes) none) ∙ valued in absurd (cc))
     (λ key is. k key is (sym (ap (λ o. may_stand o p.value.bytes) is) ∙ valued))
 
-pub pairs_run : (text_len : ℕ) (before more : List Pair) (rest : List Token) (rows cols : ℕ) (head : Head) (nodata : List ℕ) → IsHead (before ++ more) rows cols head nodata → ends_pairs rest ≡ true → pairs_from text_len before (pair_tokens more ++ rest) ≡ Ok (before ++ more, rest)
+pub pairs_run : (text_len : ℕ) (before more : List Pair) (rest : List Token) (rows cols : ℕ) (head : Head) (nodata : List ℕ) → IsHead (before ++ more) rows cols head nodata → ends_pairs rest ≡ true → pairs_from text_len before (tokens_of_pairs more ++ rest) ≡ Ok (before ++ more, rest)
 pairs_run text_len before [] rest rows cols head nodata h ended = ends_read text_len before rest ended ∙ ap (λ ps. Ok (ps, rest)) (sym (append-nil before))
 pairs_run text_len before (p ∷ more) rest rows cols head nodata h ended =
-    let valued = and_parts (is_pair p) (list_all is_pair more) (and_parts (list_all is_pair before) (is_pair p && list_all is_pair more) (sym (list_all-append is_pair before (p ∷ more)) ∙ h.valued)).1 in
+    let valued = and_parts (is_head_pair p) (list_all is_head_pair more) (and_parts (list_all is_head_pair before) (is_head_pair p && list_all is_head_pair more) (sym (list_all-append is_head_pair before (p ∷ more)) ∙ h.valued)).1 in
     key_is p valued.0 (λ key is good.
     let once : length (pairs_of key before ++ p ∷ pairs_of key more) ≤ 1 = subst (λ (ps : List Pair). length ps ≤ 1) (filter-append (is_pair_of key) before (p ∷ more) ∙ ap (λ ps. pairs_of key before ++ ps) (pairs_of-same key p more is)) (single_of (before ++ p ∷ more) rows cols head nodata h key) in
     let new : pairs_of key before ≡ [] = nothing_before (pairs_of key before) (pairs_of key more) p once in
     let joined : (before ++ p ∷ []) ++ more ≡ before ++ p ∷ more = append_assoc before (p ∷ []) more in
-    pair_read text_len before p (pair_tokens more ++ rest) key is new good (not_large key before p more rows cols head nodata h is new)
+    pair_read text_len before p (tokens_of_pairs more ++ rest) key is new good (not_large key before p more rows cols head nodata h is new)
     ∙ pairs_run text_len (before ++ p ∷ []) more rest rows cols head nodata (subst (λ ps. IsHead ps rows cols head nodata) (sym joined) h) ended
     ∙ ap (λ ps. Ok (ps, rest)) joined)
 
@@ -129,11 +130,11 @@ pairs_run text_len before (p ∷ more) rest rows cols head nodata h ended =
 front_ok : (fault : GridFault) (pairs : List Pair) (c r s : List ℕ) (cols rows : ℕ) (x y : Bool × List ℕ) (nodata : List ℕ)
     → values_of Cols pairs ≡ c ∷ [] → side_of c ≡ Some cols → values_of Rows pairs ≡ r ∷ [] → side_of r ≡ Some rows
     → map placed (pairs_of X pairs) ≡ x ∷ [] → map placed (pairs_of Y pairs) ≡ y ∷ [] → values_of Size pairs ≡ s ∷ [] → nodata_of (values_of Nodata pairs) ≡ Some nodata
-    → front_of fault pairs ≡ Ok (record { rows = rows; cols = cols; head = record { x_center = x.0; y_center = y.0; x = x.1; y = y.1; size = s }; nodata = nodata })
-unfolding front_of
+    → heading_of fault pairs ≡ Ok (record { rows = rows; cols = cols; head = record { x_center = x.0; y_center = y.0; x = x.1; y = y.1; size = s }; nodata = nodata })
+unfolding heading_of
 front_ok fault pairs c r s cols rows x y nodata ec ec2 er er2 ex ey es en = rw (ec, ec2, er, er2, ex, ey, es, en) refl
 
-pub front_is : (fault : GridFault) (pairs : List Pair) (rows cols : ℕ) (head : Head) (nodata : List ℕ) → IsHead pairs rows cols head nodata → front_of fault pairs ≡ Ok (record { rows = rows; cols = cols; head = head; nodata = nodata })
+pub front_is : (fault : GridFault) (pairs : List Pair) (rows cols : ℕ) (head : Head) (nodata : List ℕ) → IsHead pairs rows cols head nodata → heading_of fault pairs ≡ Ok (record { rows = rows; cols = cols; head = head; nodata = nodata })
 front_is fault pairs rows cols head nodata h =
     let c = one_of side_of (values_of Cols pairs) (Some cols) h.has_cols in
     let r = one_of side_of (values_of Rows pairs) (Some rows) h.has_rows in
@@ -161,7 +162,7 @@ number_pos (Some m) n e = above_pos m n e
 
 side_pos : (value : List ℕ) (n : ℕ) → side_of value ≡ Some n → 0 < n
 unfolding side_of
-side_pos value n e = number_pos (number_of 7 value) n e
+side_pos value n e = number_pos (whole_number_of 7 value) n e
 
 values_long : (key : Key) (pairs : List Pair) → length (pairs_of key pairs) ≤ 1 → length (values_of key pairs) ≤ 1
 values_long key pairs h = subst (λ n. n ≤ 1) (sym (length-map (pairs_of key pairs) (λ (p : Pair). p.value.bytes))) h
@@ -191,8 +192,8 @@ head_made pairs fine c r s cols rows x y nodata ec ec2 er er2 ex ey es en = reco
   };
 }
 
-pub front_gives : (fault : GridFault) (pairs : List Pair) (front : Front) → IsFine pairs → front_of fault pairs ≡ Ok front → IsHead pairs front.rows front.cols front.head front.nodata
-unfolding front_of
+pub front_gives : (fault : GridFault) (pairs : List Pair) (front : Heading) → IsFine pairs → heading_of fault pairs ≡ Ok front → IsHead pairs front.rows front.cols front.head front.nodata
+unfolding heading_of
 front_gives fault pairs front fine e =
     bind_gives (first_or fault (values_of Cols pairs)) _ front e (λ c ec e1.
     bind_gives (some_or fault (side_of c)) _ front e1 (λ cols ecols e2.
@@ -202,7 +203,7 @@ front_gives fault pairs front fine e =
     bind_gives (first_or fault (map placed (pairs_of Y pairs))) _ front e5 (λ y ey e6.
     bind_gives (first_or fault (values_of Size pairs)) _ front e6 (λ s es e7.
     bind_gives (some_or fault (nodata_of (values_of Nodata pairs))) _ front e7 (λ nodata en e8.
-    subst (λ (f : Front). IsHead pairs f.rows f.cols f.head f.nodata) (ok_is _ _ e8)
+    subst (λ (f : Heading). IsHead pairs f.rows f.cols f.head f.nodata) (ok_is _ _ e8)
     (head_made pairs fine c r s cols rows x y nodata
     (first_one fault _ c (values_long Cols pairs (fine.single Cols)) ec) (some_found fault _ cols ecols)
     (first_one fault _ r (values_long Rows pairs (fine.single Rows)) er) (some_found fault _ rows erows)
@@ -234,10 +235,10 @@ names_is None key e = absurd (cc)
 names_is (Some named) key e = ap (λ (k : Key). Some k) (same_key-true named key e)
 
 -- a value of the key is one that it may have
-pub value_is : (key : Key) (pairs : List Pair) (p : Pair) (ps : List Pair) → list_all is_pair pairs ≡ true → pairs_of key pairs ≡ p ∷ ps → is_value_of key p.value.bytes ≡ true
+pub value_is : (key : Key) (pairs : List Pair) (p : Pair) (ps : List Pair) → list_all is_head_pair pairs ≡ true → pairs_of key pairs ≡ p ∷ ps → is_value_of key p.value.bytes ≡ true
 value_is key [] p ps valued e = absurd (cc)
 value_is key (q ∷ qs) p ps valued e =
-    let parts = and_parts (is_pair q) (list_all is_pair qs) valued in
+    let parts = and_parts (is_head_pair q) (list_all is_head_pair qs) valued in
     bool_cases (is_pair_of key q)
     (λ own. let here : q ∷ pairs_of key qs ≡ p ∷ ps = sym (ap (λ b. cond b (q ∷ pairs_of key qs) (pairs_of key qs)) own) ∙ e in
     let good : is_value_of key q.value.bytes ≡ true = sym (ap (λ o. may_stand o q.value.bytes) (names_is (key_of q.word.bytes) key own)) ∙ parts.0 in
@@ -258,8 +259,8 @@ nodata_stands [] short e = absurd (cc)
 nodata_stands (v ∷ []) short e = absurd (cc)
 nodata_stands (v ∷ w ∷ ws) short e = absurd (omega arith)
 
-pub front_lacks : (fault told : GridFault) (pairs : List Pair) → IsFine pairs → front_of fault pairs ≡ Err told → Lacks pairs fault told
-unfolding front_of
+pub front_lacks : (fault told : GridFault) (pairs : List Pair) → IsFine pairs → heading_of fault pairs ≡ Err told → Lacks pairs fault told
+unfolding heading_of
 front_lacks fault told pairs fine e =
     bind_fails (first_or fault (values_of Cols pairs)) _ told e
     (λ none. let l = first_lacks fault told _ (pairs_of Cols pairs) none in record { key = Cols; needed = refl; none = l.0; is = l.1 })

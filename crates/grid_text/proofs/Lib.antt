@@ -1,11 +1,7 @@
 pub mod Tools
-pub mod TokenLaws
-pub mod DigitLaws
-pub mod WordLaws
 pub mod RowLaws
 pub mod Pairs
 pub mod Heads
-pub mod Order
 pub mod HeadFaults
 pub mod CellFaults
 pub mod Laws

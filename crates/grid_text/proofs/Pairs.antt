@@ -10,13 +10,14 @@ use Rattle.std.proofs.lemmas.Bool.{and_parts, and_from, ltb-false, not-true}
 use Rattle.grid_text.specs.declared.key.Key.{Key}
 use Rattle.grid_text.specs.declared.key.Key.TheVariants.{Cols, Rows, X, Y, Size, Nodata}
 use Rattle.grid_text.specs.declared.fault.GridFault.{GridFault}
-use Rattle.grid_text.specs.Tokens.{Token}
+use Rattle.text_base.specs.Tokens.{Token}
 use Rattle.grid_text.specs.Key.{key_of, same_key, is_value_of, side_of}
-use Rattle.grid_text.specs.Form.{Pair, pair_tokens, names, is_pair_of, pairs_of, values_of, may_stand, is_pair, ends_pairs}
+use Rattle.grid_text.specs.Form.{Pair, tokens_of_pairs, names, is_pair_of, pairs_of, values_of, may_stand, is_head_pair, ends_pairs}
 use Rattle.grid_text.specs.declared.fault.GridKind.TheVariants as kinds
 use Rattle.grid_text.specs.Faults.{fault_at, side_before, are_too_many, is_too_large}
-use Rattle.grid_text.specs.Reading.{is_filled, is_taken, pair_taken, word_alone, pairs_from}
-use Rattle.grid_text.proofs.Tools.{option_cases, bool_cases, ok_is, head_is, not_filled}
+use Rattle.grid_text.specs.inside.Reading.{is_filled, is_taken, pair_taken, word_alone, pairs_from}
+use Rattle.text_base.proofs.Callers.{option_cases, bool_cases, ok_is, head_is}
+use Rattle.grid_text.proofs.Tools.{not_filled}
 
 -- ---- keys
 
@@ -60,7 +61,7 @@ pairs_of-push_other named key before p is apart =
 
 -- Each has a value that its key may have, no key stands twice, and the sides give no more cells than may be.
 pub record IsFine (pairs : List Pair) : Type 0 where
-  pub valued : list_all is_pair pairs ≡ true
+  pub valued : list_all is_head_pair pairs ≡ true
   pub single : (key : Key) → length (pairs_of key pairs) ≤ 1
   pub small : (rows cols : ℕ) → map side_of (values_of Rows pairs) ≡ Some rows ∷ [] → map side_of (values_of Cols pairs) ≡ Some cols ∷ [] → rows * cols ≤ 4194304
 
@@ -110,9 +111,9 @@ pub fine_push : (before : List Pair) (word value : Token) (key : Key) → IsFine
     → IsFine (before ++ record { word = word; value = value } ∷ [])
 fine_push before word value key fine is new good ok =
     let p : Pair = record { word = word; value = value } in
-    let valued : is_pair p ≡ true = ap (λ (o : Option Key). may_stand o value.bytes) is ∙ good in
+    let valued : is_head_pair p ≡ true = ap (λ (o : Option Key). may_stand o value.bytes) is ∙ good in
     record {
-      valued = list_all-append is_pair before (p ∷ []) ∙ and_from (list_all is_pair before) (is_pair p && true) fine.valued (and_from (is_pair p) true valued refl);
+      valued = list_all-append is_head_pair before (p ∷ []) ∙ and_from (list_all is_head_pair before) (is_head_pair p && true) fine.valued (and_from (is_head_pair p) true valued refl);
       single = λ k. bool_cases (same_key key k)
           (λ same. let k_is : key ≡ k = same_key-true key k same in
           subst (λ (w : Key). length (pairs_of w (before ++ p ∷ [])) ≤ 1) k_is
@@ -137,7 +138,7 @@ ends_at token more is = ap (λ (o : Option Key). is_none o) is
 pub record Stops (before : List Pair) (tokens : List Token) (all : List Pair) (rest : List Token) : Type 0 where
   pub more : List Pair
   pub joined : all ≡ before ++ more
-  pub parts : tokens ≡ pair_tokens more ++ rest
+  pub parts : tokens ≡ tokens_of_pairs more ++ rest
   pub fine : IsFine all
   pub ended : ends_pairs rest ≡ true
 

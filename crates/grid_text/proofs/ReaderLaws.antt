@@ -3,20 +3,23 @@ use Rattle.std.proofs.Common.{◌≡◌, ℕ, ◌*◌, true, List, [], ◌∷◌
 use Rattle.std.specs.Prelude.{codes, IfOk, IfErr}
 use Rattle.cell_values.specs.declared.kind.Kind.{Kind}
 use Rattle.cell_values.specs.declared.cell.Cell.{Cell}
-use Rattle.cell_values.specs.Decimal.{decimal_of}
+use Rattle.cell_values.specs.inside.Reading.{decimal_of}
 use Rattle.grid_text.specs.declared.key.Key.TheVariants.{Nodata}
 use Rattle.grid_text.specs.declared.grid.Grid.{Grid}
 use Rattle.grid_text.specs.declared.fault.GridFault.{GridFault}
 use Rattle.grid_text.specs.declared.fault.GridKind.TheVariants as kinds
 use Rattle.grid_text.specs.declared.fault.ReadGrid.{ReadGrid}
 use Rattle.grid_text.specs.declared.fault.ReadGrid.TheVariants.{Fault, Memory}
-use Rattle.grid_text.specs.Tokens.{tokens}
+use Rattle.text_base.specs.Tokens.{tokens}
 use Rattle.grid_text.specs.Key.{is_value_of, is_nodata}
 use Rattle.grid_text.specs.Form.{Pair, pairs_of, values_of, nodata_of, IsHead, IsGrid}
 use Rattle.grid_text.specs.Faults.{fault_at, place_of}
-use Rattle.grid_text.specs.Reading.{◌>>=◌, Front, cells_from, grid_of, ReadsGrid, TellsFirst}
-use Rattle.grid_text.specs.Steps.{tokens_left, Fails, Values, front_given, ReadsPairs}
-use Rattle.grid_text.proofs.Tools.{some_is}
+use Rattle.text_base.specs.Results.{◌>>=◌}
+use Rattle.grid_text.specs.inside.Reading.{Heading, cells_from, grid_of}
+use Rattle.grid_text.specs.Reading.{ReadsGrid, TellsFirst}
+use Rattle.text_base.specs.Tokens.{tokens_left}
+use Rattle.grid_text.specs.inside.Steps.{Fails, Values, heading_given, ReadsPairs}
+use Rattle.text_base.proofs.Callers.{some_is}
 use Rattle.grid_text.proofs.Pairs.{nothing_fine, pairs_read}
 use Rattle.grid_text.proofs.Heads.{front_gives, value_is}
 use Rattle.grid_text.proofs.GivenLaws.{front_values}
@@ -43,15 +46,15 @@ module _ (kind : Kind) (text : List ℕ) (given : Values) (rest : List ℕ) (r :
   abbrev pub lacking : GridFault
   lacking = fault_at kinds.Head (place_of (length text) (tokens_left (length text) rest))
 
-  behind_pairs : grid_of kind text ≡ (front_given lacking given >>= λ front. cells_from kind front.nodata (length text) (front.rows * front.cols) (tokens_left (length text) rest) >>= λ cells. Ok (record { rows = front.rows; cols = front.cols; head = front.head; cells = cells }))
+  behind_pairs : grid_of kind text ≡ (heading_given lacking given >>= λ front. cells_from kind front.nodata (length text) (front.rows * front.cols) (tokens_left (length text) rest) >>= λ cells. Ok (record { rows = front.rows; cols = front.cols; head = front.head; cells = cells }))
   unfolding grid_of
   behind_pairs = rw (r.read, front_values lacking r.pairs given r.values) refl
 
-  pub front_fails : (e : ReadGrid) → Fails e (front_given lacking given) → ReadsGrid (Err e) (grid_of kind text)
+  pub front_fails : (e : ReadGrid) → Fails e (heading_given lacking given) → ReadsGrid (Err e) (grid_of kind text)
   front_fails (Fault f) told = behind_pairs ∙ ap (λ r. r >>= λ front. cells_from kind front.nodata (length text) (front.rows * front.cols) (tokens_left (length text) rest) >>= λ cells. Ok (record { rows = front.rows; cols = front.cols; head = front.head; cells = cells })) told
   front_fails Memory told = tt
 
-  module _ (front : Front) (is : front_given lacking given ≡ Ok front) where
+  module _ (front : Heading) (is : heading_given lacking given ≡ Ok front) where
     behind_front : grid_of kind text ≡ (cells_from kind front.nodata (length text) (front.rows * front.cols) (tokens_left (length text) rest) >>= λ cells. Ok (record { rows = front.rows; cols = front.cols; head = front.head; cells = cells }))
     behind_front = behind_pairs ∙ ap (λ r. r >>= λ front. cells_from kind front.nodata (length text) (front.rows * front.cols) (tokens_left (length text) rest) >>= λ cells. Ok (record { rows = front.rows; cols = front.cols; head = front.head; cells = cells })) is
 

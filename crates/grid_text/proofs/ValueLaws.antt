@@ -19,16 +19,14 @@ use Rattle.cell_values.specs.declared.cell.Cell.{Cell}
 use Rattle.cell_values.specs.declared.cell.Cell.TheVariants.{Mv, Val}
 use Rattle.cell_values.specs.declared.cell.NumberFault.{NumberFault}
 use Rattle.cell_values.specs.Rounding.{nearest, nearest_size}
-use Rattle.cell_values.specs.Decimal.{Decimal, decimal_of, decimal_of_parts, has_digits, exponent_of, front_digits, behind_digits, fraction_digits, behind_fraction, numerator, denominator, size_of, with_sign}
-use Rattle.cell_values.specs.Reading.{quotient, number_taken, cell_taken, cell_of_decimal, cell_read, same_value}
-use Rattle.cell_values.proofs.Alike.{same_value-is, same_value-means}
-use Rattle.cell_values.proofs.Cuts.{same_test}
-use Rattle.cell_values.proofs.DecimalLaws.{no_digits}
-use Rattle.cell_values.proofs.Readings.{nearest-signed, quotient-exact, quotient-part, denominator_pos}
+use Rattle.cell_values.specs.Decimal.{Decimal, numerator, denominator, size_of, with_sign}
+use Rattle.cell_values.specs.inside.Reading.{decimal_of, decimal_of_parts, has_digits, exponent_of, front_digits, behind_digits, fraction_digits, behind_fraction}
+use Rattle.cell_values.specs.inside.Reading.{quotient, number_taken, cell_taken, cell_of_decimal, cell_read, same_value}
+use Rattle.cell_values.proofs.Callers.{denominator_pos, nearest-signed, no_digits, quotient-exact, quotient-part, same_test, same_value-is, same_value-means}
 use Rattle.grid_text.specs.Key.{is_word, is_nan, is_nodata, is_positive, is_coordinate, is_cell_size}
-use Rattle.grid_text.specs.Form.{both_decimals, is_missing, cell_of}
-use Rattle.grid_text.specs.Steps.{number_of_cell, may_be_same}
-use Rattle.grid_text.proofs.Tools.{bool_cases, option_cases, some_is, head_is}
+use Rattle.grid_text.specs.Form.{both_decimals, is_missing, cell_of_token}
+use Rattle.grid_text.specs.inside.Steps.{number_of_cell, is_maybe_missing}
+use Rattle.text_base.proofs.Callers.{bool_cases, option_cases, some_is, head_is}
 
 -- ---- ratios
 
@@ -172,23 +170,23 @@ nodata_missing nodata h =
     ap (λ o. both_decimals o o || (is_nan nodata && is_nan nodata)) none ∙ ap (λ b. b && b) nan)
     (λ d is. ap (λ o. both_decimals o o || (is_nan nodata && is_nan nodata)) is ∙ ap (λ b. b || (is_nan nodata && is_nan nodata)) (value_is_itself d))
 
-pub may_be_itself : (r : Result Cell NumberFault) → may_be_same (number_of_cell r) r ≡ true
+pub may_be_itself : (r : Result Cell NumberFault) → is_maybe_missing (number_of_cell r) r ≡ true
 may_be_itself (Ok Mv) = refl
 may_be_itself (Ok (Val n)) = (Decides-int_eq n n).1 refl
 may_be_itself (Err e) = refl
 
-pub cell_missing : (kind : Kind) (nodata token : List ℕ) → is_missing nodata token ≡ true → Ok Mv ≡ cell_of kind nodata token
-unfolding cell_of
+pub cell_missing : (kind : Kind) (nodata token : List ℕ) → is_missing nodata token ≡ true → Ok Mv ≡ cell_of_token kind nodata token
+unfolding cell_of_token
 cell_missing kind nodata token h = sym (ap (λ b. cond b (Ok Mv) (cell_read kind token)) h)
 
-pub cell_there : (kind : Kind) (nodata token : List ℕ) → is_missing nodata token ≡ false → cell_read kind token ≡ cell_of kind nodata token
-unfolding cell_of
+pub cell_there : (kind : Kind) (nodata token : List ℕ) → is_missing nodata token ≡ false → cell_read kind token ≡ cell_of_token kind nodata token
+unfolding cell_of_token
 cell_there kind nodata token h = sym (ap (λ b. cond b (Ok Mv) (cell_read kind token)) h)
 
-pub not_missing : (kind : Kind) (nodata token : List ℕ) (number : Option ℤ) (read : Result Cell NumberFault) → number ≡ number_of_cell (cell_read kind nodata) → read ≡ cell_read kind token → may_be_same number read ≡ false → is_missing nodata token ≡ false
+pub not_missing : (kind : Kind) (nodata token : List ℕ) (number : Option ℤ) (read : Result Cell NumberFault) → number ≡ number_of_cell (cell_read kind nodata) → read ≡ cell_read kind token → is_maybe_missing number read ≡ false → is_missing nodata token ≡ false
 not_missing kind nodata token number read prepared is other = bool_cases (is_missing nodata token)
     (λ missing. let same : read ≡ cell_read kind nodata = is ∙ missing_reads kind nodata token missing in
-    let bad : may_be_same number read ≡ true = ap (λ o. may_be_same o read) (prepared ∙ ap number_of_cell (sym same)) ∙ may_be_itself read in
+    let bad : is_maybe_missing number read ≡ true = ap (λ o. is_maybe_missing o read) (prepared ∙ ap number_of_cell (sym same)) ∙ may_be_itself read in
     absurd (cc))
     (λ there. there)
 

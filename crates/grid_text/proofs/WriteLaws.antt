@@ -6,26 +6,27 @@ use Rattle.cell_values.specs.declared.cell.Cell.{Cell}
 use Rattle.cell_values.specs.declared.cell.Cell.TheVariants.{Mv, Val}
 use Rattle.cell_values.specs.declared.kind.Kind.{Kind}
 use Rattle.cell_values.specs.Kinds.{IsCell}
-use Rattle.cell_values.specs.Reading.{cell_read}
-use Rattle.cell_values.proofs.Readings.{value-from_cell}
+use Rattle.cell_values.specs.inside.Reading.{cell_read}
+use Rattle.cell_values.proofs.Callers.{value-from_cell}
 use Rattle.grid_text.specs.declared.key.Key.TheVariants.{X, Y, Size}
-use Rattle.grid_text.specs.Tokens.{Token}
+use Rattle.text_base.specs.Tokens.{Token}
 use Rattle.grid_text.specs.Key.{is_coordinate, is_cell_size}
-use Rattle.grid_text.specs.Form.{Pair, pairs_of, placed, is_missing, cell_of}
+use Rattle.grid_text.specs.Form.{Pair, pairs_of, placed, is_missing, cell_of_token}
 use Rattle.grid_text.specs.Written.{GridsCanBeWritten}
-use Rattle.grid_text.proofs.Tools.{bool_cases, head_is, tail_is, one_of}
+use Rattle.text_base.proofs.Callers.{bool_cases, head_is, tail_is}
+use Rattle.grid_text.proofs.Tools.{one_of}
 use Rattle.grid_text.proofs.Heads.{value_is}
 
 -- a cell that a token writes is one of the kind
-cell_is : (kind : Kind) (nodata token : List ℕ) (cell : Cell) → cell_of kind nodata token ≡ Ok cell → IsCell kind cell
-unfolding cell_of
+cell_is : (kind : Kind) (nodata token : List ℕ) (cell : Cell) → cell_of_token kind nodata token ≡ Ok cell → IsCell kind cell
+unfolding cell_of_token
 cell_is kind nodata token Mv e = tt
 cell_is kind nodata token (Val z) e = bool_cases (is_missing nodata token)
     (λ missing. let bad : Ok Mv ≡ Ok (Val z) = sym (ap (λ b. cond b (Ok Mv) (cell_read kind token)) missing) ∙ e in absurd (cc))
     (λ there. let read : cell_read kind token ≡ Ok (Val z) = sym (ap (λ b. cond b (Ok Mv) (cell_read kind token)) there) ∙ e in
     (value-from_cell kind token z read).2.value)
 
-cells_are : (kind : Kind) (nodata : List ℕ) (ts : List Token) (cells : List Cell) → map (λ (t : Token). cell_of kind nodata t.bytes) ts ≡ map (λ (c : Cell). Ok c) cells → AllByRecursion (IsCell kind) cells
+cells_are : (kind : Kind) (nodata : List ℕ) (ts : List Token) (cells : List Cell) → map (λ (t : Token). cell_of_token kind nodata t.bytes) ts ≡ map (λ (c : Cell). Ok c) cells → AllByRecursion (IsCell kind) cells
 cells_are kind nodata [] [] e = tt
 cells_are kind nodata [] (c ∷ cs) e = absurd (cc)
 cells_are kind nodata (t ∷ ts) [] e = absurd (cc)

@@ -1,5 +1,7 @@
 -- What is wrong with a text that is no grid, and the first of it.
-use Rattle.std.specs.Prelude.{◌≡◌, ◌≢◌, ℕ, ◌*◌, ◌<◌, ◌≤◌, Bool, true, false, List, [], ◌∷◌, ◌++◌, length, nat_lt, Some, None, Err, unwrap_or}
+use Rattle.std.specs.Prelude.{◌≡◌, ◌≢◌, ℕ, ◌*◌, ◌<◌, ◌≤◌, Bool, true, false, List, [], ◌∷◌, ◌++◌, length, nat_lt, Some, None, Err}
+use Rattle.std.specs.Prelude.{unwrap_or}
+use Rattle.text_base.specs.Limits.{most_cells}
 use Rattle.std.specs.declared.option.Option.{Option}
 use Rattle.cell_values.specs.declared.kind.Kind.{Kind}
 use Rattle.cell_values.specs.declared.cell.NumberFault.TheVariants as numbers
@@ -9,9 +11,9 @@ use Rattle.grid_text.specs.declared.grid.Head.{Head}
 use Rattle.grid_text.specs.declared.fault.GridFault.{GridFault}
 use Rattle.grid_text.specs.declared.fault.GridKind.{GridKind}
 use Rattle.grid_text.specs.declared.fault.GridKind.TheVariants as kinds
-use Rattle.grid_text.specs.Tokens.{Token, tokens}
+use Rattle.text_base.specs.Tokens.{Token, tokens}
 use Rattle.grid_text.specs.Key.{key_of, is_required, is_value_of, side_of}
-use Rattle.grid_text.specs.Form.{Pair, pairs_of, values_of, ends_pairs, IsHead, Begins, cell_of}
+use Rattle.grid_text.specs.Form.{Pair, pairs_of, values_of, ends_pairs, IsHead, Begins, cell_of_token}
 
 -- a fault of a kind at a place
 abbrev pub fault_at : GridKind → ℕ → GridFault
@@ -30,7 +32,7 @@ side_before (value ∷ more) = unwrap_or (side_of value) 1
 -- a side and the other one give too many cells
 abbrev pub are_too_many : Option ℕ → ℕ → Bool
 are_too_many None other = false
-are_too_many (Some side) other = nat_lt 4194304 (side * other)
+are_too_many (Some side) other = nat_lt most_cells (side * other)
 
 -- the value of a side gives too many cells, alone or with the other side where that stands before
 abbrev pub is_too_large : Key → List ℕ → List Pair → Bool
@@ -73,12 +75,12 @@ pub data CellFault (kind : Kind) (text_len count : ℕ) (nodata : List ℕ) (cel
   -- a token that is no decimal and stands for no missing cell
   NoDecimal : (before more : List Token) (token : Token)
       → cells ≡ before ++ token ∷ more → length before < count
-      → cell_of kind nodata token.bytes ≡ Err numbers.BadNumber
+      → cell_of_token kind nodata token.bytes ≡ Err numbers.BadNumber
       → fault ≡ fault_at kinds.BadNumber token.at → CellFault kind text_len count nodata cells fault
   -- a decimal without a value of the kind
   OutOfRange : (before more : List Token) (token : Token)
       → cells ≡ before ++ token ∷ more → length before < count
-      → cell_of kind nodata token.bytes ≡ Err numbers.Range
+      → cell_of_token kind nodata token.bytes ≡ Err numbers.Range
       → fault ≡ fault_at kinds.Range token.at → CellFault kind text_len count nodata cells fault
   -- a token after the last cell
   Beyond : (before more : List Token) (token : Token)

@@ -1,12 +1,14 @@
 -- The key words of a head, and the values that each may have.
-use Rattle.std.specs.Prelude.{ℕ, Bool, true, false, ◌&&◌, ◌||◌, List, length, codes, nat_lt, nat_le, int_lt, pos, is_some, Some, None, if◌then◌else◌}
+use Rattle.std.specs.Prelude.{ℕ, Bool, true, false, ◌&&◌, ◌||◌, List, length, codes, nat_lt, nat_le, int_lt, pos, is_some, Some, None}
+use Rattle.std.specs.Prelude.{if◌then◌else◌}
 use Rattle.std.specs.declared.option.Option.{Option}
 use Rattle.std.specs.Option.{option_and_then}
 use Rattle.std.specs.Str.{str_eq_ignore_ascii_case}
-use Rattle.cell_values.specs.Decimal.{Decimal, decimal_of, numerator}
+use Rattle.cell_values.specs.Decimal.{Decimal, numerator}
+use Rattle.cell_values.specs.inside.Reading.{decimal_of}
 use Rattle.grid_text.specs.declared.key.Key.{Key}
 use Rattle.grid_text.specs.declared.key.Key.TheVariants.{Cols, Rows, X, Y, Size, Nodata}
-use Rattle.grid_text.specs.Number.{number_of}
+use Rattle.text_base.specs.Numbers.{whole_number_of}
 
 -- a text is a word, in any case of its letters
 abbrev pub is_word : List ℕ → List ℕ → Bool
@@ -50,22 +52,30 @@ is_required Nodata = false
 abbrev pub above_zero : ℕ → Option ℕ
 above_zero n = if nat_lt 0 n then Some n else None
 
+-- the most digits of a number of rows or columns
+abbrev pub most_side_digits : ℕ
+most_side_digits = 7
+
 -- the number of rows or columns that 1 to 7 digits write
 unfoldable pub side_of : List ℕ → Option ℕ
-side_of value = option_and_then above_zero (number_of 7 value)
+side_of value = option_and_then above_zero (whole_number_of 7 value)
 
 -- a decimal above 0
 abbrev pub is_positive : Option Decimal → Bool
 is_positive None = false
 is_positive (Some d) = int_lt (pos 0) (numerator d)
 
+-- the most bytes of a coordinate and of the size of a cell
+abbrev pub longest_coordinate : ℕ
+longest_coordinate = 64
+
 -- the place of a corner or of a center: a decimal of at most 64 bytes
 abbrev pub is_coordinate : List ℕ → Bool
-is_coordinate value = nat_le (length value) 64 && is_some (decimal_of value)
+is_coordinate value = nat_le (length value) longest_coordinate && is_some (decimal_of value)
 
 -- the size of a cell: such a decimal, and above 0
 abbrev pub is_cell_size : List ℕ → Bool
-is_cell_size value = nat_le (length value) 64 && is_positive (decimal_of value)
+is_cell_size value = nat_le (length value) longest_coordinate && is_positive (decimal_of value)
 
 -- not a number, in any case of its letters
 abbrev pub is_nan : List ℕ → Bool

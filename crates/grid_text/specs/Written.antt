@@ -1,10 +1,11 @@
 -- The one text of a grid.
 use Rattle.std.specs.Prelude.{◌≡◌, ℕ, zero, suc, ◌*◌, true, List, [], ◌∷◌, ◌++◌, length, take, drop, codes, decimal, if◌then◌else◌}
 use Rattle.std.specs.List.{All}
+use Rattle.text_base.specs.Bytes.{line_feed, space}
 use Rattle.cell_values.specs.declared.cell.Cell.{Cell}
 use Rattle.cell_values.specs.declared.kind.Kind.{Kind}
 use Rattle.cell_values.specs.Kinds.{IsCell}
-use Rattle.cell_values.specs.Printed.{printed_cell}
+use Rattle.cell_values.specs.inside.Printed.{printed_cell}
 use Rattle.grid_text.specs.declared.grid.Grid.{Grid}
 use Rattle.grid_text.specs.declared.grid.Head.{Head}
 use Rattle.grid_text.specs.Key.{is_coordinate, is_cell_size}
@@ -12,7 +13,7 @@ use Rattle.grid_text.specs.Form.{IsSize, IsGrid}
 
 -- a line of a key word and its value
 abbrev pub key_line : List ℕ → List ℕ → List ℕ
-key_line key value = key ++ 32 ∷ (value ++ 10 ∷ [])
+key_line key value = key ++ space ∷ (value ++ line_feed ∷ [])
 
 -- the lines of a head, which end with the size of a cell
 abbrev pub head_lines : ℕ → ℕ → Head → List ℕ
@@ -25,8 +26,8 @@ head_lines rows cols head =
 
 -- a space where more cells follow in a row, and else a line feed
 abbrev pub behind_cell : List Cell → ℕ
-behind_cell [] = 10
-behind_cell (cell ∷ more) = 32
+behind_cell [] = line_feed
+behind_cell (cell ∷ more) = space
 
 -- the cells of a row, each with what stands behind it
 abbrev pub row_line : Kind → List Cell → List ℕ

@@ -1,19 +1,20 @@
 //! The cells of a grid text.
 
 ghost use Rattle.std.specs.Prelude.{◌≡◌, ◌≤◌, true, length};
-ghost use Rattle.cell_values.specs.Reading.{cell_read};
+ghost use Rattle.cell_values.specs.inside.Reading.{cell_read};
 ghost use Rattle.grid_text.specs.declared.fault.GridKind.TheVariants as kinds;
 ghost use Rattle.grid_text.specs.Key.{is_nodata};
-ghost use Rattle.grid_text.specs.Form.{cell_of, is_missing};
+ghost use Rattle.grid_text.specs.Form.{cell_of_token, is_missing};
 ghost use Rattle.grid_text.specs.Faults.{fault_at};
-ghost use Rattle.grid_text.specs.Reading.{cells_from, told_at};
-ghost use Rattle.grid_text.specs.Steps.{Gives, may_be_same, number_of_cell, tokens_left};
+ghost use Rattle.grid_text.specs.inside.Reading.{cells_from, cell_or_fault_at};
+ghost use Rattle.grid_text.specs.inside.Steps.{Gives, is_maybe_missing, number_of_cell};
+ghost use Rattle.text_base.specs.Tokens.{tokens_left};
 
 use crate::fault::{GridFault, GridKind, ReadGrid};
 use crate::key::is_nan;
-use crate::tokens::next_token;
 use cell_values::{Cell, Cells, Kind, NumberFault, is_decimal, read_cell, same_decimal};
 use std::alloc::Global;
+use text_base::next_token;
 
 // A wrong number of cells.
 fn count_fault(at: u64) -> GridFault
@@ -37,8 +38,8 @@ fn number_of(read: Result<Cell, NumberFault>) -> Option<i64>
 
 // Whether what is read may be what the missing value is read as, of which the number is known.
 #[inline]
-fn may_be(number: Option<i64>, read: Result<Cell, NumberFault>) -> bool
-    ensures { result ≡ may_be_same number read }
+fn is_maybe_missing(number: Option<i64>, read: Result<Cell, NumberFault>) -> bool
+    ensures { result ≡ is_maybe_missing number read }
 {
     match (number, read) {
         (Some(m), Ok(Cell::Val(n))) => m == n,
@@ -74,13 +75,13 @@ fn cell_at(
 ) -> Result<Cell, NumberFault>
     requires nodata { is_nodata nodata.now ≡ true }
     requires prepared { number ≡ number_of_cell (cell_read kind nodata.now) }
-    ensures { result ≡ cell_of kind nodata.now token.now }
+    ensures { result ≡ cell_of_token kind nodata.now token.now }
 {
     if token == nodata {
         return Ok(Cell::Mv);
     }
     let read = read_cell(kind, token);
-    if !may_be(number, read) {
+    if !is_maybe_missing(number, read) {
         return read;
     }
     if stands_for_missing(nodata, token) {
@@ -91,8 +92,8 @@ fn cell_at(
 
 // A cell, or the fault of its token.
 #[inline]
-fn told(at: u64, read: Result<Cell, NumberFault>) -> Result<Cell, GridFault>
-    ensures { result ≡ told_at at read }
+fn cell_or_fault(at: u64, read: Result<Cell, NumberFault>) -> Result<Cell, GridFault>
+    ensures { result ≡ cell_or_fault_at at read }
 {
     match read {
         Ok(cell) => Ok(cell),
@@ -128,7 +129,7 @@ pub fn read_cells(
         let Some((token, behind)) = next_token(text_len, rest) else {
             return Err(ReadGrid::Fault(count_fault(text_len as u64)));
         };
-        match told(token.at, cell_at(kind, nodata, number, token.bytes)) {
+        match cell_or_fault(token.at, cell_at(kind, nodata, number, token.bytes)) {
             Ok(cell) => cells.push(cell)?,
             Err(fault) => return Err(ReadGrid::Fault(fault)),
         }

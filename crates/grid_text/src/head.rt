@@ -4,21 +4,18 @@ ghost use Rattle.std.specs.Prelude.{◌≡◌, [], length, MatchResult, Err};
 ghost use Rattle.std.specs.Option.{option_map};
 ghost use Rattle.grid_text.specs.Key.{side_of};
 ghost use Rattle.grid_text.specs.declared.fault.GridKind.TheVariants as kinds;
-ghost use Rattle.grid_text.specs.Tokens.{tokens};
+ghost use Rattle.text_base.specs.Tokens.{tokens};
 ghost use Rattle.grid_text.specs.Faults.{fault_at};
-ghost use Rattle.grid_text.specs.Reading.{pairs_from};
-ghost use Rattle.grid_text.specs.Steps.{Gives, ReadsPairs, front_given, front_view, given_view, has_come, place_given, place_view, side_beside, with_value};
+ghost use Rattle.grid_text.specs.inside.Reading.{pairs_from};
+ghost use Rattle.grid_text.specs.inside.Steps.{Gives, ReadsPairs, heading_given, heading_view, given_view, has_come, place_given, place_view, side_beside, with_value};
 
 use crate::fault::{GridFault, GridKind, ReadGrid};
 use crate::grid::Head;
 use crate::key::{Key, is_center, key_of};
-use crate::tokens::next_token;
 use crate::values::{is_cell_size, is_coordinate, is_nodata, side};
 use cell_values::Word;
 use std::alloc::Global;
-
-/// The most cells of a grid.
-const MAX_CELLS: u64 = 4_194_304;
+use text_base::{MOST_CELLS, next_token};
 
 /// A place of the head, and whether it is that of a center.
 #[derive(Clone, Copy)]
@@ -40,7 +37,7 @@ pub struct Given<'a> {
 
 /// What a head says.
 #[derive(Drop)]
-pub struct Front<'a> {
+pub struct Heading<'a> {
     pub rows: u32,
     pub cols: u32,
     pub head: Head,
@@ -59,7 +56,7 @@ pub fn head_fault(at: u64) -> GridFault
 }
 
 // Whether the key has come.
-fn has(given: Given<'_>, key: Key) -> bool
+fn has_come(given: Given<'_>, key: Key) -> bool
     ensures { result ≡ has_come key (given_view given.entry) }
 {
     match key {
@@ -77,7 +74,7 @@ fn side_next_to(value: &[u8], other: Option<u32>) -> Option<u32>
     ensures { result ≡ side_beside (side_of value.now) other }
 {
     let n = side(value)?;
-    if n as u64 * other.unwrap_or(1) as u64 <= MAX_CELLS {
+    if n as u64 * other.unwrap_or(1) as u64 <= MOST_CELLS {
         Some(n)
     } else {
         None
@@ -98,7 +95,7 @@ fn place_of<'a>(word: &[u8], value: &'a [u8]) -> Option<Place<'a>>
 }
 
 // What is given with one more value, where the key may have it.
-fn with<'a>(given: Given<'a>, key: Key, word: &[u8], value: &'a [u8]) -> Option<Given<'a>>
+fn add_value<'a>(given: Given<'a>, key: Key, word: &[u8], value: &'a [u8]) -> Option<Given<'a>>
     ensures { option_map given_view result ≡ with_value key word.now value.now (given_view given.entry) }
 {
     match key {
@@ -159,13 +156,13 @@ pub fn read_pairs(text: &[u8]) -> Result<(Given<'_>, &[u8]), GridFault>
         let Some(key) = key_of(word.bytes) else {
             return Ok((given, rest));
         };
-        if has(given, key) {
+        if has_come(given, key) {
             return Err(head_fault(word.at));
         }
         let Some((value, after)) = next_token(text_len, behind) else {
             return Err(head_fault(text_len as u64));
         };
-        let Some(more) = with(given, key, word.bytes, value.bytes) else {
+        let Some(more) = add_value(given, key, word.bytes, value.bytes) else {
             return Err(head_fault(value.at));
         };
         given = more;
@@ -175,20 +172,20 @@ pub fn read_pairs(text: &[u8]) -> Result<(Given<'_>, &[u8]), GridFault>
 }
 
 /// The head that the pairs have given, or the fault where a required key lacks.
-#[tactic(auto, unfolding(crate::specs::Steps::front_given))]
-pub fn read_front<'a>(
+#[tactic(auto, unfolding(crate::specs::inside::Steps::heading_given))]
+pub fn read_heading<'a>(
     alloc: Global,
     given: Given<'a>,
     fault: GridFault,
-) -> Result<Front<'a>, ReadGrid>
-    ensures { Gives front_view result (front_given fault (given_view given.entry)) }
+) -> Result<Heading<'a>, ReadGrid>
+    ensures { Gives heading_view result (heading_given fault (given_view given.entry)) }
 {
     let cols = given.cols.ok_or(fault)?;
     let rows = given.rows.ok_or(fault)?;
     let x = given.x.ok_or(fault)?;
     let y = given.y.ok_or(fault)?;
     let size = given.size.ok_or(fault)?;
-    Ok(Front {
+    Ok(Heading {
         rows,
         cols,
         head: Head {

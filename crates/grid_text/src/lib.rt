@@ -7,13 +7,11 @@
 #![tactic(auto)]
 
 mod cells;
-mod digits;
 mod fault;
 mod grid;
 mod head;
 mod key;
 mod reader;
-mod tokens;
 mod values;
 mod writer;
 
@@ -21,6 +19,3 @@ pub use fault::{GridFault, GridKind, ReadGrid};
 pub use grid::{Grid, Head};
 pub use reader::{first_faults_are_told, grids_are_read, read_grid};
 pub use writer::{grids_can_be_written, write_grid, written_grids_read_back};
-
-#[cfg(test)]
-mod tests;

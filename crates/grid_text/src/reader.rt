@@ -4,16 +4,17 @@ ghost use Rattle.std.specs.Prelude.{◌≡◌, ◌≤◌, length, Ok, IfOk, IfEr
 ghost use Rattle.grid_text.specs.declared.grid.Grid.{Grid};
 ghost use Rattle.grid_text.specs.Form.{IsGrid};
 ghost use Rattle.grid_text.specs.Faults.{place_of};
-ghost use Rattle.grid_text.specs.Steps.{tokens_left};
-ghost use Rattle.grid_text.specs.Reading.{FirstFaultsAreTold, GridsAreRead, ReadsGrid, TellsFirst, grid_of};
+ghost use Rattle.text_base.specs.Tokens.{tokens_left};
+ghost use Rattle.grid_text.specs.Reading.{FirstFaultsAreTold, GridsAreRead, ReadsGrid, TellsFirst};
+ghost use Rattle.grid_text.specs.inside.Reading.{grid_of};
 
 use crate::cells::read_cells;
 use crate::fault::ReadGrid;
 use crate::grid::Grid;
-use crate::head::{Front, head_fault, read_front, read_pairs};
-use crate::tokens::next_token;
+use crate::head::{Heading, head_fault, read_heading, read_pairs};
 use cell_values::Kind;
 use std::alloc::Global;
+use text_base::next_token;
 
 // The place of the first token of the last bytes, or the text's length.
 fn place_of(text_len: usize, bytes: &[u8]) -> u64
@@ -27,18 +28,18 @@ fn place_of(text_len: usize, bytes: &[u8]) -> u64
 }
 
 // The grid of the text.
-#[tactic(auto, unfolding(crate::specs::Reading::grid_of))]
+#[tactic(auto, unfolding(crate::specs::inside::Reading::grid_of))]
 fn read_whole(alloc: Global, kind: Kind, text: &[u8]) -> Result<Grid, ReadGrid>
     ensures { ReadsGrid result (grid_of kind text.now) }
 {
     let (given, rest) = read_pairs(text)?;
-    let front = read_front(alloc, given, head_fault(place_of(text.len(), rest)))?;
-    let Front {
+    let heading = read_heading(alloc, given, head_fault(place_of(text.len(), rest)))?;
+    let Heading {
         rows,
         cols,
         head,
         nodata,
-    } = front;
+    } = heading;
     let count = rows as usize * cols as usize;
     let cells = read_cells(alloc, kind, nodata, count, text.len(), rest)?;
     Ok(Grid {

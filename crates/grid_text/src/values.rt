@@ -4,19 +4,22 @@ ghost use Rattle.std.specs.Prelude.{◌≡◌, ◌<◌, IfSome};
 ghost use Rattle.std.specs.Str.Parse.{starts_with_minus};
 ghost use Rattle.grid_text.specs.Key.{is_cell_size, is_coordinate, is_nodata, side_of};
 
-use crate::digits::number;
 use crate::key::is_nan;
 use cell_values::{is_decimal, same_decimal};
+use text_base::whole_number;
+
+/// The most digits of a number of rows or columns.
+const MOST_SIDE_DIGITS: usize = 7;
 
 /// The most bytes of a coordinate and of the size of a cell.
-const MAX_COORDINATE: usize = 64;
+const LONGEST_COORDINATE: usize = 64;
 
 /// The number of rows or columns: 1 to 7 digits, and at least 1.
 #[tactic(auto, unfolding(crate::specs::Key::side_of))]
 pub fn side(value: &[u8]) -> Option<u32>
     ensures { result ≡ side_of value.now }
 {
-    let n = number(value, 7)?;
+    let n = whole_number(value, MOST_SIDE_DIGITS)?;
     if n > 0 { Some(n as u32) } else { None }
 }
 
@@ -24,7 +27,7 @@ pub fn side(value: &[u8]) -> Option<u32>
 pub fn is_coordinate(value: &[u8]) -> bool
     ensures { result ≡ is_coordinate value.now }
 {
-    value.len() <= MAX_COORDINATE && is_decimal(value)
+    value.len() <= LONGEST_COORDINATE && is_decimal(value)
 }
 
 // Whether a minus stands first.

@@ -43,12 +43,12 @@ fn put_head(rows: u32, cols: u32, head: &Head, out: &mut Vec<u8>) -> Result<(), 
 }
 
 // A row of cells, each with a space behind it, and the last with a line feed.
-fn put_row(kind: Kind, row: &[Cell], alloc: Global, out: &mut Vec<u8>) -> Result<(), AllocError>
+fn put_row(alloc: Global, kind: Kind, row: &[Cell], out: &mut Vec<u8>) -> Result<(), AllocError>
     ensures { OnOk result (out.new.items ≡ out.old.items ++ row_line kind row.now) }
 {
     let mut rest = row;
     while let Some((cell, more)) = rest.split_first() {
-        print_cell(kind, *cell, alloc, out)?;
+        print_cell(alloc, kind, *cell, out)?;
         out.push(if more.is_empty() { b'\n' } else { b' ' })?;
         rest = more;
     }
@@ -78,7 +78,7 @@ pub fn write_grid(
     let mut rest = cells;
     for _ in 0..rows {
         let (row, more) = rest.split_at(cols as usize);
-        put_row(kind, row, alloc, &mut out)?;
+        put_row(alloc, kind, row, &mut out)?;
         rest = more;
     }
     Ok(out)

@@ -3,7 +3,7 @@ use Rattle.std.proofs.Common.{◌≡◌, ℕ, ◌+◌, List, [], ◌∷◌, ◌+
 use Rattle.std.specs.Prelude.{Ok, Err, Result, map}
 use Rattle.cell_values.specs.declared.cell.Cell.{Cell}
 use Rattle.cell_values.specs.declared.cell.Over as no_cell
-use Rattle.cell_values.specs.Arithmetic.{sum_of}
+use Rattle.cell_values.specs.Arithmetic.{scalar_sum}
 use Rattle.lue_run.specs.MapSum.{IsFirstOver, sums_at}
 use Rattle.lue_run.specs.inside.Sums.{sums_from, cell_before}
 
@@ -33,7 +33,7 @@ sum_here n (Ok c) (Err p) rest cells more e = absurd (cc)
 pub sums_all : (n : ℕ) (first second cells : List Cell) → sums_from n first second ≡ Ok cells → sums_at first second ≡ map Ok cells
 sums_all n [] second cells e = ap (map Ok) (same_ok [] cells (Ok []) refl e)
 sums_all n (a ∷ more) [] cells e = ap (map Ok) (same_ok [] cells (Ok []) refl e)
-sums_all n (a ∷ more) (b ∷ bs) cells e = sum_here n (sum_of a b) (sums_from (n + 1) more bs) (sums_at more bs) cells (sums_all (n + 1) more bs) e
+sums_all n (a ∷ more) (b ∷ bs) cells e = sum_here n (scalar_sum a b) (sums_from (n + 1) more bs) (sums_at more bs) cells (sums_all (n + 1) more bs) e
 
 -- the first Over, where places are counted from n
 abbrev FirstFrom : ℕ → List (Result Cell no_cell.Over) → ℕ → Type 0
@@ -53,7 +53,7 @@ over_here n (Ok c) (Err p) rest place more e =
 pub first_over_from : (n : ℕ) (first second : List Cell) (place : ℕ) → sums_from n first second ≡ Err place → FirstFrom n (sums_at first second) place
 first_over_from n [] second place e = absurd (cc)
 first_over_from n (a ∷ more) [] place e = absurd (cc)
-first_over_from n (a ∷ more) (b ∷ bs) place e = over_here n (sum_of a b) (sums_from (n + 1) more bs) (sums_at more bs) place (first_over_from (n + 1) more bs) e
+first_over_from n (a ∷ more) (b ∷ bs) place e = over_here n (scalar_sum a b) (sums_from (n + 1) more bs) (sums_at more bs) place (first_over_from (n + 1) more bs) e
 
 pub first_over : (first second : List Cell) (place : ℕ) → sums_from 0 first second ≡ Err place → IsFirstOver (sums_at first second) place
 first_over first second place e =

@@ -14,7 +14,7 @@ use Rattle.script_syntax.specs.declared.tree.Target.TheVariants.{File}
 use Rattle.script_syntax.specs.Reading.{script_of}
 use Rattle.grid_text.specs.declared.grid.Grid.{Grid}
 use Rattle.grid_text.specs.declared.fault.GridFault.{GridFault}
-use Rattle.grid_text.specs.Reading.{grid_of}
+use Rattle.grid_text.specs.inside.Reading.{grid_of}
 use Rattle.grid_text.specs.Written.{written_grid}
 use Rattle.lue_run.specs.declared.ended.InputKind.TheVariants as inputs
 use Rattle.lue_run.specs.declared.ended.OverAt.{OverAt}

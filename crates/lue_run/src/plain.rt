@@ -7,7 +7,7 @@ ghost use Rattle.lue_run.specs.PlainRun.{grid_run, grid_sum, grids_run, over_at,
 ghost use Rattle.lue_run.specs.inside.Parts.{Gives, Makes};
 ghost use Rattle.lue_run.specs.inside.Values.{IsInput, IsSized, IsUnbuilt, files_named};
 ghost use Rattle.cell_values.specs.declared.kind.Kind.TheVariants.{Scalar};
-ghost use Rattle.grid_text.specs.Reading.{grid_of};
+ghost use Rattle.grid_text.specs.inside.Reading.{grid_of};
 ghost use Rattle.grid_text.specs.Written.{written_grid};
 ghost use Rattle.script_syntax.specs.Reading.{script_of};
 

@@ -10,7 +10,7 @@ use Rattle.script_syntax.specs.declared.tree.Target.TheVariants as targets
 use Rattle.script_syntax.specs.declared.tree.Expr.TheVariants as exprs
 use Rattle.script_syntax.specs.declared.tree.Statement.{Statement}
 use Rattle.script_syntax.specs.declared.tree.Script.{Script}
-use Rattle.cell_values.specs.Decimal.{decimal_of}
+use Rattle.cell_values.specs.inside.Reading.{decimal_of}
 use Rattle.script_syntax.specs.Tokens.{tokens_of}
 
 -- the words that are no names

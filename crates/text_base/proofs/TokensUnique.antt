@@ -8,7 +8,7 @@ use Rattle.std.proofs.lemmas.List.Elements.{All-nil, All-cons, All-contains, All
 use Rattle.std.proofs.lemmas.List.Kept.{AllPairs-cons}
 use Rattle.std.proofs.lemmas.List.Sums.{list_all-from_AllPass, prefix_len_passes, prefix_len_stops, prefix_len-le-length, prefix_len-drop_yes}
 use Rattle.text_base.specs.Bytes.{is_blank}
-use Rattle.text_base.specs.Tokens.{Token, end_of, Covers, IsRun, AreTokens, ends_token, tokens_at, tokens, TokensAreUnique}
+use Rattle.text_base.specs.Tokens.{Token, place_behind, Covers, IsRun, AreTokens, ends_token, tokens_at, tokens, TokensAreUnique}
 use Rattle.text_base.specs.inside.Steps.{is_token_byte, IsEmptyOrToken}
 use Rattle.text_base.proofs.Callers.{bool_cases, tokens_at-blank}
 use Rattle.text_base.proofs.TokenLaws.{tokens_at-token}
@@ -22,10 +22,10 @@ inside text t place run covers =
     let i : ℕ = place - t.at in
     let at : t.at + i ≡ place = omega (arith, covers.0) in
     let within : i < length t.bytes = omega (arith, covers.0, covers.1) in
-    let span : end_of t - t.at ≡ length t.bytes = omega arith in
+    let span : place_behind t - t.at ≡ length t.bytes = omega arith in
     let here : get_or t.bytes i 0 ≡ get_or text place 0 =
     ap (λ (bytes : List ℕ). get_or bytes i 0) (sym run.stands)
-    ∙ get_or-take (end_of t - t.at) (drop t.at text) i 0 (omega (arith, within, span))
+    ∙ get_or-take (place_behind t - t.at) (drop t.at text) i 0 (omega (arith, within, span))
     ∙ get_or-drop t.at text i 0
     ∙ ap (λ n. get_or text n 0) at in
     ap is_blank (sym here) ∙ run.no_blank i 0 within
@@ -43,14 +43,14 @@ begins_before text a b place run run' covers covers' =
     ]
 
 -- and does not end before it, where they begin together
-ends_behind : (text : List ℕ) (a b : Token) → IsRun text a → IsRun text b → a.at ≡ b.at → end_of b ≤ end_of a
+ends_behind : (text : List ℕ) (a b : Token) → IsRun text a → IsRun text b → a.at ≡ b.at → place_behind b ≤ place_behind a
 ends_behind text a b run run' same =
-    elim (cases_lt (end_of a) (end_of b)) [
+    elim (cases_lt (place_behind a) (place_behind b)) [
       | inr le ↦ le
       | inl lt ↦ absurd (
           let in' = run'.within in
           let yes = run.ends (omega (arith, lt, in')) in
-          let no : is_blank (get_or text (end_of a) 0) ≡ false = inside text b (end_of a) run' (omega (arith, same), lt) in
+          let no : is_blank (get_or text (place_behind a) 0) ≡ false = inside text b (place_behind a) run' (omega (arith, same), lt) in
           cc)
     ]
 
@@ -62,8 +62,8 @@ same_run text a b place run run' covers covers' =
     let at : a.at ≡ b.at = omega (arith, le, ge) in
     let e = ends_behind text a b run run' at in
     let e' = ends_behind text b a run' run (sym at) in
-    let end : end_of a ≡ end_of b = omega (arith, e, e') in
-    let bytes : a.bytes ≡ b.bytes = sym run.stands ∙ ap (λ n. slice_range text n (end_of a)) at ∙ ap (λ n. slice_range text b.at n) end ∙ run'.stands in
+    let end : place_behind a ≡ place_behind b = omega (arith, e, e') in
+    let bytes : a.bytes ≡ b.bytes = sym run.stands ∙ ap (λ n. slice_range text n (place_behind a)) at ∙ ap (λ n. slice_range text b.at n) end ∙ run'.stands in
     let one : a ≡ record { at = b.at; bytes = a.bytes } = ap (λ n. let t : Token = record { at = n; bytes = a.bytes } in t) at in
     one ∙ ap (λ (bs : List ℕ). let t : Token = record { at = b.at; bytes = bs } in t) bytes
 
@@ -121,12 +121,12 @@ behind_blank text start all blank behind = record {
 }
 
 -- a run is one more, and then a blank or the end
-behind_run : (text : List ℕ) (start : ℕ) (t : Token) (all : List Token) → IsRun text t → t.at ≡ start → Behind text (end_of t) all → Behind text start (t ∷ all)
+behind_run : (text : List ℕ) (start : ℕ) (t : Token) (all : List Token) → IsRun text t → t.at ≡ start → Behind text (place_behind t) all → Behind text start (t ∷ all)
 behind_run text start t all run at behind = record {
   runs = All-cons (IsRun text) t all run behind.runs;
-  later = All-cons (λ t. start ≤ t.at) t all (omega (arith, at)) (All-weaker (λ (u : Token). end_of t ≤ u.at) (λ u. start ≤ u.at) (λ u h. omega (arith, h, at)) all behind.later);
-  ascending = AllPairs-cons (λ a b. a.at < b.at) t all (let some = run.some in All-weaker (λ (u : Token). end_of t ≤ u.at) (λ u. t.at < u.at) (λ u h. omega (arith, h, some)) all behind.later) behind.ascending;
-  rest = λ place from within. elim (cases_lt place (end_of t)) [
+  later = All-cons (λ t. start ≤ t.at) t all (omega (arith, at)) (All-weaker (λ (u : Token). place_behind t ≤ u.at) (λ u. start ≤ u.at) (λ u h. omega (arith, h, at)) all behind.later);
+  ascending = AllPairs-cons (λ a b. a.at < b.at) t all (let some = run.some in All-weaker (λ (u : Token). place_behind t ≤ u.at) (λ u. t.at < u.at) (λ u h. omega (arith, h, some)) all behind.later) behind.ascending;
+  rest = λ place from within. elim (cases_lt place (place_behind t)) [
     | inl lt ↦ inr (Any-head (Covers place) t all (omega (arith, at, from), lt))
     | inr le ↦ or_tail place (behind.rest place le within)
   ];
@@ -165,7 +165,7 @@ run_stops text start lt =
 is_run : (text : List ℕ) (start : ℕ) → start < length text → is_blank (get_or text start 0) ≡ false → (0 < start → is_blank (get_or text (start - 1) 0) ≡ true) → IsRun text (run_at text start)
 is_run text start lt other edge = record {
   within = omega (arith, length_run text start, run_within text start (omega arith));
-  stands = let span : end_of (run_at text start) - start ≡ run_len text start = omega (arith, length_run text start) in ap (λ n. take n (drop start text)) span;
+  stands = let span : place_behind (run_at text start) - start ≡ run_len text start = omega (arith, length_run text start) in ap (λ n. take n (drop start text)) span;
   some = omega (arith, length_run text start, run_some text start lt other);
   no_blank = λ k d in'.
       let here : k < run_len text start = omega (arith, in', length_run text start) in
@@ -173,7 +173,7 @@ is_run text start lt other edge = record {
       (ap is_token_byte (get_or-take (run_len text start) (drop start text) k d here) ∙ prefix_len_passes is_token_byte (drop start text) k d here);
   begins = edge;
   ends = λ behind.
-      let end : end_of (run_at text start) ≡ start + run_len text start = omega (arith, length_run text start) in
+      let end : place_behind (run_at text start) ≡ start + run_len text start = omega (arith, length_run text start) in
       ap (λ n. is_blank (get_or text n 0)) end ∙ run_stops text start (omega (arith, behind, end));
 }
 
@@ -194,11 +194,11 @@ run_bytes text start = list_all-from_AllPass is_token_byte (take (run_len text s
 
 -- it is the first of the tokens that are found
 first_run : (text : List ℕ) (start : ℕ) → start < length text → is_blank (get_or text start 0) ≡ false
-    → tokens_at start (drop start text) ≡ run_at text start ∷ tokens_at (end_of (run_at text start)) (drop (end_of (run_at text start)) text)
+    → tokens_at start (drop start text) ≡ run_at text start ∷ tokens_at (place_behind (run_at text start)) (drop (place_behind (run_at text start)) text)
 first_run text start lt other =
     let some : 0 < length (drop start text) = omega (arith, lt, length-drop start text) in
     let begins : IsEmptyOrToken (drop start text) = subst IsEmptyOrToken (sym (drop_more text start 0 lt)) other in
-    let end : start + run_len text start ≡ end_of (run_at text start) = omega (arith, length_run text start) in
+    let end : start + run_len text start ≡ place_behind (run_at text start) = omega (arith, length_run text start) in
     tokens_at-token start (drop start text) (run_len text start) (prefix_len-le-length is_token_byte (drop start text)) some begins (run_bytes text start) (run_ended text start (omega arith))
     ∙ ap (λ bs. run_at text start ∷ tokens_at (start + run_len text start) bs) (drop-drop (run_len text start) start text)
     ∙ ap (λ n. run_at text start ∷ tokens_at n (drop n text)) end
@@ -215,10 +215,10 @@ found (suc n) text start enough edge =
           (behind_blank text start _ blank (found n text (start + 1) (omega (arith, enough)) (λ _. let same : start + 1 - 1 ≡ start = omega arith in ap (λ n. is_blank (get_or text n 0)) same ∙ blank)))))
           (λ other. let run = is_run text start lt other edge in
           subst (Behind text start) (sym (first_run text start lt other)) (behind_run text start (run_at text start) _ run refl
-          (elim (cases_lt (end_of (run_at text start)) (length text)) [
-            | inr le ↦ subst (λ bytes. Behind text (end_of (run_at text start)) (tokens_at (end_of (run_at text start)) bytes)) (sym (drop_all (end_of (run_at text start)) text le)) (behind_end text (end_of (run_at text start)) le)
+          (elim (cases_lt (place_behind (run_at text start)) (length text)) [
+            | inr le ↦ subst (λ bytes. Behind text (place_behind (run_at text start)) (tokens_at (place_behind (run_at text start)) bytes)) (sym (drop_all (place_behind (run_at text start)) text le)) (behind_end text (place_behind (run_at text start)) le)
             | inl lt' ↦
-                let end : ℕ = end_of (run_at text start) in
+                let end : ℕ = place_behind (run_at text start) in
                 let blank = run.ends lt' in
                 subst (λ bytes. Behind text end (tokens_at end bytes)) (sym (drop_more text end 0 lt'))
                 (subst (Behind text end) (sym (tokens_at-blank end (get_or text end 0) (drop (end + 1) text) blank))

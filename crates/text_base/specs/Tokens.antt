@@ -11,22 +11,22 @@ pub record Token : Type 0 where
   pub bytes : List ℕ
 
 -- the place behind a token
-abbrev pub end_of : Token → ℕ
-end_of token = token.at + length token.bytes
+abbrev pub place_behind : Token → ℕ
+place_behind token = token.at + length token.bytes
 
 -- the place is one of the token's
 abbrev pub Covers : ℕ → Token → Type 0
-Covers place token = (token.at ≤ place) × (place < end_of token)
+Covers place token = (token.at ≤ place) × (place < place_behind token)
 
 -- The token is a run of the text: its bytes stand at its place, at least one, none of them a blank, and a blank or an
 -- edge of the text stands on each side.
 pub record IsRun (text : List ℕ) (token : Token) : Type 0 where
-  pub within : end_of token ≤ length text
-  pub stands : slice_range text token.at (end_of token) ≡ token.bytes
+  pub within : place_behind token ≤ length text
+  pub stands : slice_range text token.at (place_behind token) ≡ token.bytes
   pub some : 0 < length token.bytes
   pub no_blank : All (λ b. is_blank b ≡ false) token.bytes
   pub begins : 0 < token.at → is_blank (slice_index text (token.at - 1)) ≡ true
-  pub ends : end_of token < length text → is_blank (slice_index text (end_of token)) ≡ true
+  pub ends : place_behind token < length text → is_blank (slice_index text (place_behind token)) ≡ true
 
 -- These are the tokens of the text: runs of it, by ascending places, and each byte that is no blank is in one of them.
 pub record AreTokens (text : List ℕ) (all : List Token) : Type 0 where

@@ -55,7 +55,7 @@ static REPRINTED: [(&str, &str); 20] = [
 // The text of a cell behind two bytes.
 fn printed_behind(alloc: Global, kind: Kind, cell: Cell) -> Result<Vec<u8>, AllocError> {
     let mut out = Vec::from_slice(alloc, b"> ")?;
-    print_cell(kind, cell, alloc, &mut out)?;
+    print_cell(alloc, kind, cell, &mut out)?;
     Ok(out)
 }
 

@@ -4,7 +4,7 @@ use Rattle.cell_values.specs.declared.cell.Cell.{Cell}
 use Rattle.cell_values.specs.declared.cell.Over as no_cell
 use Rattle.lue_run.specs.declared.map_sum.SumEnd.{SumEnd}
 use Rattle.lue_run.specs.declared.map_sum.SumEnd.TheVariants.{Over, Memory}
-use Rattle.cell_values.specs.Arithmetic.{sum_of}
+use Rattle.cell_values.specs.Arithmetic.{scalar_sum}
 
 -- a cell in front of the cells behind it, or the first place, counted from `place`, that is Over
 abbrev pub cell_before : ℕ → Result Cell no_cell.Over → Result (List Cell) ℕ → Result (List Cell) ℕ
@@ -16,7 +16,7 @@ cell_before place (Ok cell) (Err later) = Err later
 abbrev pub sums_from : ℕ → List Cell → List Cell → Result (List Cell) ℕ
 sums_from place [] bs = Ok []
 sums_from place (a ∷ more) [] = Ok []
-sums_from place (a ∷ more) (b ∷ bs) = cell_before place (sum_of a b) (sums_from (place + 1) more bs)
+sums_from place (a ∷ more) (b ∷ bs) = cell_before place (scalar_sum a b) (sums_from (place + 1) more bs)
 
 -- when there is no sum: at the first place that is Over, or for want of memory
 abbrev pub SumRefused : Result (List Cell) ℕ → SumEnd → Type 0

@@ -1,5 +1,5 @@
 use Rattle.std.proofs.Common.{◌≡◌, is_some, sym, ◌∙◌, rules}
-use Rattle.cell_values.specs.Decimal.{decimal_of}
+use Rattle.cell_values.specs.inside.Reading.{decimal_of}
 use Rattle.cell_values.proofs.DecimalLaws.{some-from_text, text-from_some}
 use Rattle.cell_values.proofs.decimal.is_decimal.Goals as goal
 

@@ -1,5 +1,5 @@
 use Rattle.std.proofs.Common.{◌≡◌, length}
-use Rattle.cell_values.specs.Printed.{trimmed}
+use Rattle.cell_values.specs.inside.Printed.{trimmed}
 use Rattle.cell_values.proofs.print.without_zeros.Given as goal
 
 abbrev pub invariant-loop-last : goal.invariant-loop-last

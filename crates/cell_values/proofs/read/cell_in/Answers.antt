@@ -2,8 +2,8 @@ use Rattle.std.proofs.Common.{ap, sym, ◌∙◌, rules, FitsSigned}
 use Rattle.std.proofs.lemmas.Int.{to_z-of_z}
 use mir.Syntax.{w128}
 use Rattle.cell_values.specs.Decimal.{numerator, denominator}
-use Rattle.cell_values.specs.Parts.{decimal_with}
-use Rattle.cell_values.specs.Reading.{cell_read, cell_of_decimal, cell_taken, number_taken}
+use Rattle.cell_values.specs.inside.Parts.{decimal_with}
+use Rattle.cell_values.specs.inside.Reading.{cell_read, cell_of_decimal, cell_taken, number_taken}
 use Rattle.cell_values.proofs.Readings.{cell-ok, cell-over, beyond-cell}
 use Rattle.cell_values.proofs.read.cell_in.Goals as goal
 

@@ -2,7 +2,7 @@ use Rattle.std.proofs.Common.{◌≡◌, ◌+◌, ◌-◌, ◌*◌, ◌^◌, ◌
 use Rattle.std.specs.List.{list_all}
 use Rattle.std.specs.Str.Parse.{digits_value}
 use Rattle.cell_values.specs.Decimal.{size_of, denominator, with_sign, rise_of, fall_of}
-use Rattle.cell_values.specs.Parts.{is_zero, row_digits}
+use Rattle.cell_values.specs.inside.Parts.{is_zero, row_digits}
 use Rattle.cell_values.proofs.Digits.{are_digits-append}
 use Rattle.cell_values.proofs.Cuts.{cut_is, quotient_is, zeros-ge}
 use Rattle.cell_values.proofs.read.cut_at.Goals as goal

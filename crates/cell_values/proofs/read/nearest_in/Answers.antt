@@ -2,7 +2,7 @@ use Rattle.std.proofs.Common.{◌*◌, ap, sym, ◌∙◌, arith, rules, unsigne
 use Rattle.std.proofs.lemmas.Int.{to_z-of_z}
 use mir.Syntax.{w128}
 use Rattle.cell_values.specs.Decimal.{numerator, denominator, size_of, with_sign}
-use Rattle.cell_values.specs.Parts.{decimal_with}
+use Rattle.cell_values.specs.inside.Parts.{decimal_with}
 use Rattle.cell_values.specs.Rounding.{nearest_size}
 use Rattle.cell_values.proofs.Readings.{nearest-signed, nearest-cut, nearest-ge, abs_signed, denominator_pos}
 use Rattle.cell_values.proofs.read.nearest_in.Goals as goal

@@ -2,7 +2,7 @@ use Rattle.std.proofs.Common.{◌≡◌, ◌*◌, ap, sym, ◌∙◌, arith, rul
 use Rattle.std.proofs.lemmas.Int.{to_z-of_z}
 use mir.Syntax.{w128}
 use Rattle.cell_values.specs.Decimal.{numerator, denominator, size_of, with_sign}
-use Rattle.cell_values.specs.Parts.{decimal_with, IsBeyond, IsCut}
+use Rattle.cell_values.specs.inside.Parts.{decimal_with, IsBeyond, IsCut}
 use Rattle.cell_values.proofs.Readings.{quotient-exact, quotient-part, quotient-beyond, denominator_pos}
 use Rattle.cell_values.proofs.read.whole_in.Goals as goal
 

@@ -1,5 +1,5 @@
 use Rattle.std.proofs.Common.{◌≡◌, ◌<◌, ◌+◌, ℕ, get_or}
-use Rattle.cell_values.specs.Parts.{row_digits, digit_behind}
+use Rattle.cell_values.specs.inside.Parts.{row_digits, digit_behind}
 use Rattle.cell_values.proofs.same.is_within.Given as goal
 
 abbrev pub invariant-loop-i : goal.invariant-loop-i

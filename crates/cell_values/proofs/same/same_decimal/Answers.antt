@@ -1,4 +1,4 @@
-use Rattle.cell_values.specs.Parts.{decimal_with}
+use Rattle.cell_values.specs.inside.Parts.{decimal_with}
 use Rattle.cell_values.proofs.Alike.{same-exact}
 use Rattle.cell_values.proofs.same.same_decimal.Goals as goal
 

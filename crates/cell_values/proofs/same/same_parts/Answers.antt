@@ -2,7 +2,7 @@ use Rattle.std.proofs.Common.{◌≡◌, ◌*◌, ◌==◌, ap, sym, ◌∙◌}
 use Rattle.std.specs.List.{list_all}
 use Rattle.std.proofs.Math.Bool.{beq}
 use Rattle.cell_values.specs.Decimal.{size_of, denominator}
-use Rattle.cell_values.specs.Parts.{decimal_with, is_zero}
+use Rattle.cell_values.specs.inside.Parts.{decimal_with, is_zero}
 use Rattle.cell_values.proofs.Digits.{are_digits-append}
 use Rattle.cell_values.proofs.Alike.{same_value-is, zero_size, by_sign, by_zero, by_size}
 use Rattle.cell_values.proofs.same.same_parts.Goals as goal

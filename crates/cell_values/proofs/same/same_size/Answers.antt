@@ -1,7 +1,7 @@
 use Rattle.std.proofs.Common.{◌≡◌, ◌+◌, ◌*◌, ◌==◌, length, arith}
 use Rattle.std.proofs.lemmas.Bool.{eqb-true, eq-eqb, both_ways}
 use Rattle.cell_values.specs.Decimal.{size_of, denominator, with_sign, rise_of, fall_of}
-use Rattle.cell_values.specs.Parts.{decimal_with}
+use Rattle.cell_values.specs.inside.Parts.{decimal_with}
 use Rattle.cell_values.proofs.Digits.{are_digits-append}
 use Rattle.cell_values.proofs.Cuts.{same_test}
 use Rattle.cell_values.proofs.Alike.{sizes-from_rows, rows-from_sizes}

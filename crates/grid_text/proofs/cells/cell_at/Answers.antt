@@ -10,9 +10,9 @@ returns-then-eq c =
     let missing : is_missing c.args.nodata.now c.args.token.now ≡ true = subst (λ token. is_missing c.args.nodata.now token ≡ true) (sym same) (nodata_missing c.args.nodata.now c.requires.nodata) in
     cell_missing c.args.kind c.args.nodata.now c.args.token.now missing
 
-pub returns-then-not-may_be : goal.returns-then-not-may_be
-returns-then-not-may_be c =
-    let there : is_missing c.args.nodata.now c.args.token.now ≡ false = not_missing c.args.kind c.args.nodata.now c.args.token.now c.args.number c.read_cell-read.result c.requires.prepared c.read_cell-read.ensures.reading (sym c.may_be.ensures ∙ c.if-not-may_be.true) in
+pub returns-then-not-is_maybe_missing : goal.returns-then-not-is_maybe_missing
+returns-then-not-is_maybe_missing c =
+    let there : is_missing c.args.nodata.now c.args.token.now ≡ false = not_missing c.args.kind c.args.nodata.now c.args.token.now c.args.number c.read_cell-read.result c.requires.prepared c.read_cell-read.ensures.reading (sym c.is_maybe_missing.ensures ∙ c.if-not-is_maybe_missing.true) in
     c.read_cell-read.ensures.reading ∙ cell_there c.args.kind c.args.nodata.now c.args.token.now there
 
 pub returns-then-stands_for_missing : goal.returns-then-stands_for_missing

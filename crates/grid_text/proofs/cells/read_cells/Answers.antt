@@ -1,9 +1,9 @@
 use Rattle.std.proofs.Common.{◌+◌, ◌-◌, List, Ok, Err, sym, ap, ◌∙◌, arith}
 use Rattle.cell_values.specs.declared.cell.Cell.{Cell}
 use Rattle.grid_text.specs.declared.fault.GridFault.{GridFault}
-use Rattle.grid_text.specs.Tokens.{Token}
-use Rattle.grid_text.specs.Reading.{told_at, cells_from}
-use Rattle.grid_text.specs.Steps.{tokens_left, token_view}
+use Rattle.text_base.specs.Tokens.{Token}
+use Rattle.grid_text.specs.inside.Reading.{cell_or_fault_at, cells_from}
+use Rattle.text_base.specs.Tokens.{tokens_left, token_view}
 use Rattle.grid_text.proofs.CellLaws.{before, cell_read_on, cell_refused, cell_missing, cell_beyond, cells_done}
 use Rattle.grid_text.proofs.cells.read_cells.Goals as goal
 
@@ -18,14 +18,14 @@ returns-in-Err c =
     let left : List Token = tokens_left c.args.text_len c.loop.rest.now in
     let more : List Token = tokens_left c.args.text_len c.in-Some.behind.now in
     cell_refused c.args.kind c.args.nodata.now c.args.text_len c.loop.cells.items c.args.count c.loop.counter left _ c.loop.invariant.same (token_view c.in-Some.token) more c.in-Err.fault c.loop-test.true c.in-Some.ensures.tokens
-    (ap (told_at c.in-Some.token.at) (sym c.cell_at.ensures) ∙ sym c.told.ensures ∙ c.in-Err.is)
+    (ap (cell_or_fault_at c.in-Some.token.at) (sym c.cell_at.ensures) ∙ sym c.cell_or_fault.ensures ∙ c.in-Err.is)
 
 pub loop-preserved : goal.loop-preserved
 loop-preserved c =
     let left : List Token = tokens_left c.args.text_len c.loop.rest.now in
     let more : List Token = tokens_left c.args.text_len c.in-Some.behind.now in
     let on = cell_read_on c.args.kind c.args.nodata.now c.args.text_len c.loop.cells.items c.args.count c.loop.counter left _ c.loop.invariant.same (token_view c.in-Some.token) more c.in-Ok.cell c.loop-test.true c.in-Some.ensures.tokens
-    (ap (told_at c.in-Some.token.at) (sym c.cell_at.ensures) ∙ sym c.told.ensures ∙ c.in-Ok.is) in
+    (ap (cell_or_fault_at c.in-Some.token.at) (sym c.cell_at.ensures) ∙ sym c.cell_or_fault.ensures ∙ c.in-Ok.is) in
     record {
       same = ap (λ (items : List Cell). before items (cells_from c.args.kind c.args.nodata.now c.args.text_len (c.args.count - (c.loop.counter + 1)) more)) c.in_ok-push-in-Ok.ensures.items ∙ on;
       within = omega (arith, c.in-Some.ensures.shorter, c.loop.invariant.within);

@@ -1,6 +1,6 @@
 use Rattle.std.proofs.Common.{◌≡◌, ◌-◌, ◌≤◌, length}
-use Rattle.grid_text.specs.Reading.{cells_from}
-use Rattle.grid_text.specs.Steps.{tokens_left}
+use Rattle.grid_text.specs.inside.Reading.{cells_from}
+use Rattle.text_base.specs.Tokens.{tokens_left}
 use Rattle.grid_text.proofs.CellLaws.{before}
 use Rattle.grid_text.proofs.cells.read_cells.Given as goal
 

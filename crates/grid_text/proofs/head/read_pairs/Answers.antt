@@ -6,10 +6,11 @@ use Rattle.grid_text.specs.declared.head.Given as given
 use Rattle.grid_text.specs.declared.fault.GridFault.{GridFault}
 use Rattle.grid_text.specs.Key.{key_of}
 use Rattle.grid_text.specs.Form.{Pair, pairs_of, ends_pairs}
-use Rattle.grid_text.specs.Reading.{is_filled, pairs_from}
-use Rattle.grid_text.specs.Steps.{tokens_left, token_view, given_view, with_value}
+use Rattle.grid_text.specs.inside.Reading.{is_filled, pairs_from}
+use Rattle.text_base.specs.Tokens.{tokens_left, token_view}
+use Rattle.grid_text.specs.inside.Steps.{given_view, with_value}
 use Rattle.grid_text.proofs.Tools.{not_filled}
-use Rattle.grid_text.proofs.TokenLaws.{left_all}
+use Rattle.text_base.proofs.Callers.{tokens_left-all}
 use Rattle.grid_text.proofs.Pairs.{ends_at}
 use Rattle.grid_text.proofs.Heads.{ends_read}
 use Rattle.grid_text.proofs.GivenLaws.{come_filled, with_values, step_read, again_read, alone_read, value_read, nothing_given}
@@ -19,7 +20,7 @@ pub loop-word-init : goal.loop-word-init
 loop-word-init c = record {
   before = [];
   values = nothing_given;
-  same = ap (pairs_from (length c.args.text.now) []) (left_all c.args.text.now);
+  same = ap (pairs_from (length c.args.text.now) []) (tokens_left-all c.args.text.now);
   within = omega arith;
 }
 
@@ -36,13 +37,13 @@ returns-in_default-key_of c =
       within = i.within;
     }
 
-pub returns-then-has : goal.returns-then-has
-returns-then-has c =
+pub returns-then-has_come : goal.returns-then-has_come
+returns-then-has_come c =
     let n : ℕ = length c.args.text.now in
     let i = c.loop-word.invariant in
     let key : Key = c.in-Some-key_of.key in
     let is : key_of c.in-Some.word.bytes.now ≡ Some key = sym c.key_of.ensures ∙ c.in-Some-key_of.is in
-    let again : is_filled (pairs_of key i.before) ≡ true = sym (come_filled i.before (given_view c.loop-word.given) key i.values) ∙ sym c.has.ensures ∙ c.if-has.true in
+    let again : is_filled (pairs_of key i.before) ≡ true = sym (come_filled i.before (given_view c.loop-word.given) key i.values) ∙ sym c.has_come.ensures ∙ c.if-has_come.true in
     sym i.same
     ∙ ap (pairs_from n i.before) c.in-Some.ensures.tokens
     ∙ again_read n i.before (token_view c.in-Some.word) (tokens_left n c.in-Some.behind.now) key is again
@@ -54,24 +55,24 @@ returns-in_default-next_token c =
     let i = c.loop-word.invariant in
     let key : Key = c.in-Some-key_of.key in
     let is : key_of c.in-Some.word.bytes.now ≡ Some key = sym c.key_of.ensures ∙ c.in-Some-key_of.is in
-    let new : is_filled (pairs_of key i.before) ≡ false = sym (come_filled i.before (given_view c.loop-word.given) key i.values) ∙ sym c.has.ensures ∙ c.if-has.false in
+    let new : is_filled (pairs_of key i.before) ≡ false = sym (come_filled i.before (given_view c.loop-word.given) key i.values) ∙ sym c.has_come.ensures ∙ c.if-has_come.false in
     sym i.same
     ∙ ap (pairs_from n i.before) (c.in-Some.ensures.tokens ∙ ap (λ ts. token_view c.in-Some.word ∷ ts) c.in_default-next_token.ensures.tokens)
     ∙ alone_read n i.before (token_view c.in-Some.word) key is new
     ∙ ap (λ (f : GridFault). Err f) (sym c.head_fault-in_default-next_token.ensures)
 
-pub returns-in_default-with : goal.returns-in_default-with
-returns-in_default-with c =
+pub returns-in_default-add_value : goal.returns-in_default-add_value
+returns-in_default-add_value c =
     let n : ℕ = length c.args.text.now in
     let i = c.loop-word.invariant in
     let key : Key = c.in-Some-key_of.key in
     let is : key_of c.in-Some.word.bytes.now ≡ Some key = sym c.key_of.ensures ∙ c.in-Some-key_of.is in
-    let new : is_filled (pairs_of key i.before) ≡ false = sym (come_filled i.before (given_view c.loop-word.given) key i.values) ∙ sym c.has.ensures ∙ c.if-has.false in
-    let bad : with_value key c.in-Some.word.bytes.now c.in-Some-next_token.value.bytes.now (given_view c.loop-word.given) ≡ None = sym c.with.ensures ∙ ap (λ (o : Option given.Given). option_map given_view o) c.in_default-with.is in
+    let new : is_filled (pairs_of key i.before) ≡ false = sym (come_filled i.before (given_view c.loop-word.given) key i.values) ∙ sym c.has_come.ensures ∙ c.if-has_come.false in
+    let bad : with_value key c.in-Some.word.bytes.now c.in-Some-next_token.value.bytes.now (given_view c.loop-word.given) ≡ None = sym c.add_value.ensures ∙ ap (λ (o : Option given.Given). option_map given_view o) c.in_default-add_value.is in
     sym i.same
     ∙ ap (pairs_from n i.before) (c.in-Some.ensures.tokens ∙ ap (λ ts. token_view c.in-Some.word ∷ ts) c.in-Some-next_token.ensures.tokens)
     ∙ value_read n i.before (token_view c.in-Some.word) (token_view c.in-Some-next_token.value) (tokens_left n c.in-Some-next_token.after.now) key (given_view c.loop-word.given) is i.values new bad
-    ∙ ap (λ (f : GridFault). Err f) (sym c.head_fault-in_default-with.ensures)
+    ∙ ap (λ (f : GridFault). Err f) (sym c.head_fault-in_default-add_value.ensures)
 
 pub loop-word-preserved : goal.loop-word-preserved
 loop-word-preserved c =
@@ -79,14 +80,14 @@ loop-word-preserved c =
     let i = c.loop-word.invariant in
     let key : Key = c.in-Some-key_of.key in
     let is : key_of c.in-Some.word.bytes.now ≡ Some key = sym c.key_of.ensures ∙ c.in-Some-key_of.is in
-    let new : pairs_of key i.before ≡ [] = not_filled (pairs_of key i.before) (sym (come_filled i.before (given_view c.loop-word.given) key i.values) ∙ sym c.has.ensures ∙ c.if-has.false) in
+    let new : pairs_of key i.before ≡ [] = not_filled (pairs_of key i.before) (sym (come_filled i.before (given_view c.loop-word.given) key i.values) ∙ sym c.has_come.ensures ∙ c.if-has_come.false) in
     let p : Pair = record { word = token_view c.in-Some.word; value = token_view c.in-Some-next_token.value } in
-    let good : with_value key p.word.bytes p.value.bytes (given_view c.loop-word.given) ≡ Some (given_view c.in-Some-with.more) = sym c.with.ensures ∙ ap (λ (o : Option given.Given). option_map given_view o) c.in-Some-with.is in
+    let good : with_value key p.word.bytes p.value.bytes (given_view c.loop-word.given) ≡ Some (given_view c.in-Some-add_value.more) = sym c.add_value.ensures ∙ ap (λ (o : Option given.Given). option_map given_view o) c.in-Some-add_value.is in
     record {
       before = i.before ++ p ∷ [];
-      values = with_values i.before p key (given_view c.loop-word.given) (given_view c.in-Some-with.more) is i.values new good;
+      values = with_values i.before p key (given_view c.loop-word.given) (given_view c.in-Some-add_value.more) is i.values new good;
       same =
-          sym (step_read n i.before p (tokens_left n c.in-Some-next_token.after.now) key (given_view c.loop-word.given) (given_view c.in-Some-with.more) is i.values new good)
+          sym (step_read n i.before p (tokens_left n c.in-Some-next_token.after.now) key (given_view c.loop-word.given) (given_view c.in-Some-add_value.more) is i.values new good)
           ∙ sym (ap (pairs_from n i.before) (c.in-Some.ensures.tokens ∙ ap (λ ts. token_view c.in-Some.word ∷ ts) c.in-Some-next_token.ensures.tokens))
           ∙ i.same;
       within = omega (arith, c.in-Some.ensures.shorter, c.in-Some-next_token.ensures.shorter);

@@ -1,8 +1,9 @@
 use Rattle.std.proofs.Common.{◌≡◌, ◌≤◌, List, [], length}
-use Rattle.grid_text.specs.Tokens.{tokens}
+use Rattle.text_base.specs.Tokens.{tokens}
 use Rattle.grid_text.specs.Form.{Pair}
-use Rattle.grid_text.specs.Reading.{pairs_from}
-use Rattle.grid_text.specs.Steps.{tokens_left, given_view, AreValues}
+use Rattle.grid_text.specs.inside.Reading.{pairs_from}
+use Rattle.text_base.specs.Tokens.{tokens_left}
+use Rattle.grid_text.specs.inside.Steps.{given_view, AreValues}
 use Rattle.grid_text.proofs.head.read_pairs.Given as goal
 
 -- some pairs were read and have given these values, and reading on from there is reading the text

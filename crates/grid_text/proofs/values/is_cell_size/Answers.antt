@@ -1,5 +1,5 @@
 use Rattle.std.proofs.Common.{refl, sym, ◌∙◌}
-use Rattle.cell_values.specs.Decimal.{decimal_of}
+use Rattle.cell_values.specs.inside.Reading.{decimal_of}
 use Rattle.grid_text.proofs.ValueLaws.{minus_no_size, size_tested}
 use Rattle.grid_text.proofs.values.is_cell_size.Goals as goal
 

@@ -1,5 +1,6 @@
 use Rattle.std.proofs.Common.{◌≡◌, false, true, rules, ◌∙◌}
-use Rattle.cell_values.specs.Decimal.{has_digits, with_sign}
+use Rattle.cell_values.specs.inside.Reading.{has_digits}
+use Rattle.cell_values.specs.Decimal.{with_sign}
 use Rattle.cell_values.proofs.DecimalLaws.{decimal_of_is, no_digits, no_power, all_parts}
 use Rattle.cell_values.proofs.decimal.Parts.of.Goals as goal
 

@@ -1,51 +1,35 @@
--- Words for the reader's own steps. What a reader of the crate is to believe stands in the other files.
-use Rattle.std.specs.Prelude.{◌≡◌, ℕ, ◌-◌, ◌*◌, ◌≤◌, ℤ, Bool, true, false, not, List, [], ◌∷◌, length, map, codes, nat_le, is_some, unwrap_or, Some, None, Result, Ok, Err, if◌then◌else◌, ⊤}
+-- Words for the reader's own steps. What a reader of the crate is to believe stands in the files above.
+use Rattle.std.specs.Prelude.{◌≡◌, ℕ, ◌*◌, ◌≤◌, ℤ, Bool, true, false, List, [], length, map, nat_le, is_some, unwrap_or, Some, None}
+use Rattle.std.specs.Prelude.{Result, Ok, Err, if◌then◌else◌, ⊤}
 use Rattle.std.specs.declared.option.Option.{Option}
 use Rattle.std.specs.Ordering.{int_eq}
 use Rattle.std.specs.Option.{option_map, option_and_then, option_to_list, ok_or}
+use Rattle.text_base.specs.Limits.{most_cells}
+use Rattle.text_base.specs.Results.{◌>>=◌}
+use Rattle.text_base.specs.Tokens.{tokens, tokens_left}
 use Rattle.cell_values.specs.declared.cell.Cell.{Cell}
 use Rattle.cell_values.specs.declared.cell.Cell.TheVariants.{Mv, Val}
 use Rattle.cell_values.specs.declared.cell.NumberFault.{NumberFault}
-use Rattle.grid_text.specs.declared.tokens.Word as word
 use Rattle.grid_text.specs.declared.head.Given as given
 use Rattle.grid_text.specs.declared.head.Place as place
-use Rattle.grid_text.specs.declared.head.Front as front
+use Rattle.grid_text.specs.declared.head.Heading as heading
 use Rattle.grid_text.specs.declared.key.Key.{Key}
 use Rattle.grid_text.specs.declared.key.Key.TheVariants.{Cols, Rows, X, Y, Size, Nodata}
 use Rattle.grid_text.specs.declared.fault.GridFault.{GridFault}
 use Rattle.grid_text.specs.declared.fault.ReadGrid.{ReadGrid}
 use Rattle.grid_text.specs.declared.fault.ReadGrid.TheVariants.{Fault, Memory}
-use Rattle.grid_text.specs.Tokens.{Token, is_blank, tokens_from, tokens}
 use Rattle.grid_text.specs.Key.{is_center, side_of, is_coordinate, is_cell_size, is_nodata}
-use Rattle.grid_text.specs.Form.{Pair, pairs_of, values_of, placed}
-use Rattle.grid_text.specs.Reading.{◌>>=◌, pairs_from, Front}
-
--- ---- tokens
-
--- a byte of a token
-abbrev pub is_token_byte : ℕ → Bool
-is_token_byte b = not (is_blank b)
-
--- a token stands at the front, if anything does
-abbrev pub IsEmptyOrToken : List ℕ → Type 0
-IsEmptyOrToken [] = ⊤
-IsEmptyOrToken (b ∷ bytes) = is_blank b ≡ false
-
--- the tokens of the last bytes of a text of this length
-unfoldable pub tokens_left : ℕ → List ℕ → List Token
-tokens_left text_len bytes = tokens_from (text_len - length bytes) bytes
-
--- a token as contracts see it
-abbrev pub token_view : word.Word → Token
-token_view w = record { at = w.at; bytes = w.bytes.now }
+use Rattle.grid_text.specs.Form.{Pair, default_nodata, pairs_of, values_of, placed}
+use Rattle.grid_text.specs.inside.Reading.{pairs_from, Heading}
 
 -- ---- answers
 
--- What a part of the reader answers, seen by view, is what is to be read, unless memory runs out.
+-- a part of the reader that fails tells what is to be told, unless memory runs out
 abbrev pub Fails : {Y : Type 0} → ReadGrid → Result Y GridFault → Type 0
 Fails (Fault fault) read = read ≡ Err fault
 Fails Memory read = ⊤
 
+-- what a part of the reader answers, seen by view, is what is to be read, unless memory runs out
 abbrev pub Gives : {X Y : Type 0} → (X → Y) → Result X ReadGrid → Result Y GridFault → Type 0
 Gives view (Ok x) read = read ≡ Ok (view x)
 Gives view (Err e) read = Fails e read
@@ -61,11 +45,20 @@ pub record Values : Type 0 where
   pub size : Option (List ℕ)
   pub nodata : Option (List ℕ)
 
+-- a place with slices of a text, as contracts see it
 abbrev pub place_view : place.Place → Bool × List ℕ
 place_view p = (p.center, p.value.now)
 
+-- values with slices of a text, as contracts see them
 abbrev pub given_view : given.Given → Values
-given_view g = record { cols = g.cols; rows = g.rows; x = option_map place_view g.x; y = option_map place_view g.y; size = option_map (λ v. v.now) g.size; nodata = option_map (λ v. v.now) g.nodata }
+given_view g = record {
+  cols = g.cols;
+  rows = g.rows;
+  x = option_map place_view g.x;
+  y = option_map place_view g.y;
+  size = option_map (λ v. v.now) g.size;
+  nodata = option_map (λ v. v.now) g.nodata;
+}
 
 -- the values are those of the pairs
 pub record AreValues (pairs : List Pair) (given : Values) : Type 0 where
@@ -87,7 +80,7 @@ has_come Nodata given = is_some given.nodata
 
 -- a side, where it gives not too many cells with the other one
 abbrev pub side_beside : Option ℕ → Option ℕ → Option ℕ
-side_beside side other = option_and_then (λ n. if nat_le (n * unwrap_or other 1) 4194304 then Some n else None) side
+side_beside side other = option_and_then (λ n. if nat_le (n * unwrap_or other 1) most_cells then Some n else None) side
 
 -- a value, where it may stand
 abbrev pub where_good : {A : Type 0} → Bool → A → Option A
@@ -115,18 +108,24 @@ pub record ReadsPairs (text : List ℕ) (given : Values) (rest : List ℕ) : Typ
 
 -- ---- the head
 
-abbrev pub front_view : front.Front → Front
-front_view f = record { rows = f.rows; cols = f.cols; head = f.head; nodata = f.nodata.now }
+-- a heading with slices of a text, as contracts see it
+abbrev pub heading_view : heading.Heading → Heading
+heading_view f = record { rows = f.rows; cols = f.cols; head = f.head; nodata = f.nodata.now }
 
 -- the head that the values are, or a fault
-unfoldable pub front_given : GridFault → Values → Result Front GridFault
-front_given fault given = do
+unfoldable pub heading_given : GridFault → Values → Result Heading GridFault
+heading_given fault given = do
   cols ← ok_or given.cols fault
   rows ← ok_or given.rows fault
   x ← ok_or given.x fault
   y ← ok_or given.y fault
   size ← ok_or given.size fault
-  Ok (record { rows = rows; cols = cols; head = record { x_center = x.0; y_center = y.0; x = x.1; y = y.1; size = size }; nodata = unwrap_or given.nodata (codes "-9999") })
+  Ok (record {
+    rows = rows;
+    cols = cols;
+    head = record { x_center = x.0; y_center = y.0; x = x.1; y = y.1; size = size };
+    nodata = unwrap_or given.nodata default_nodata;
+  })
 
 -- ---- the cells
 
@@ -137,8 +136,8 @@ number_of_cell (Ok Mv) = None
 number_of_cell (Err e) = None
 
 -- What is read may be what has this number: a number is compared, and all else may be.
-abbrev pub may_be_same : Option ℤ → Result Cell NumberFault → Bool
-may_be_same (Some m) (Ok (Val n)) = int_eq m n
-may_be_same None (Ok (Val n)) = false
-may_be_same number (Ok Mv) = true
-may_be_same number (Err e) = true
+abbrev pub is_maybe_missing : Option ℤ → Result Cell NumberFault → Bool
+is_maybe_missing (Some m) (Ok (Val n)) = int_eq m n
+is_maybe_missing None (Ok (Val n)) = false
+is_maybe_missing number (Ok Mv) = true
+is_maybe_missing number (Err e) = true

@@ -1,5 +1,7 @@
 -- A decimal as code holds it, and what code finds of it.
-use Rattle.std.specs.Prelude.{◌≡◌, ◌*◌, ◌/◌, ◌%◌, ◌^◌, ◌≤◌, ℕ, ℤ, List, ◌++◌, ◌-◌, ⊤, Option, Some, None, ◌==◌, nat_le, nat_lt, Bool, ◌<◌, ◌+◌, length, get_or, unsigned_abs, if◌then◌else◌}
+use Rattle.std.specs.Prelude.{◌≡◌, ◌*◌, ◌/◌, ◌%◌, ◌^◌, ◌≤◌, ℕ, ℤ, List, ◌++◌, ◌-◌, ⊤, Option, Some, None, ◌==◌, nat_le, nat_lt}
+use Rattle.std.specs.Prelude.{Bool, ◌<◌, ◌+◌, length, get_or, unsigned_abs, if◌then◌else◌}
+use Rattle.text_base.specs.Bytes.{zero_digit}
 use Rattle.cell_values.specs.declared.decimal.Parts.{Parts}
 use Rattle.cell_values.specs.declared.digit_row.Row.{Row}
 use Rattle.cell_values.specs.declared.read.Cut.{Cut}
@@ -26,12 +28,13 @@ IsBeyond (Some z) = 2 ^ 64 ≤ unsigned_abs z
 
 -- a zero
 abbrev pub is_zero : ℕ → Bool
-is_zero digit = digit == 48
+is_zero digit = digit == zero_digit
 
 -- the digit of a row at a place, where the row begins so many places further on: 0 before and behind it
 abbrev pub digit_behind : List ℕ → ℕ → ℕ → ℕ
-digit_behind digits start place = if nat_lt place start then 48 else get_or digits (place - start) 48
+digit_behind digits start place = if nat_lt place start then zero_digit else get_or digits (place - start) zero_digit
 
 -- each digit of a row stands at its place in another, where both begin so many places further on
-abbrev pub IsWithin : List ℕ → ℕ → List ℕ → ℕ → Type 0
-IsWithin digits start others other_start = (i : ℕ) → i < length digits → get_or digits i 48 ≡ digit_behind others other_start (i + start)
+abbrev pub IsRowWithin : List ℕ → ℕ → List ℕ → ℕ → Type 0
+IsRowWithin digits start others other_start =
+    (i : ℕ) → i < length digits → get_or digits i zero_digit ≡ digit_behind others other_start (i + start)
