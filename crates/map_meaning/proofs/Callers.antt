@@ -1,0 +1,57 @@
+-- What the crates above cite.
+use Rattle.std.proofs.Common.{◌≡◌, ℕ, ◌+◌, List, [], ◌∷◌, map, sym, ◌∙◌, ap, Ok, Err}
+use Rattle.text_base.specs.Results.{◌>>=◌}
+use Rattle.cell_values.specs.declared.kind.Kind.{Kind}
+use Rattle.cell_values.specs.declared.cell.Cell.{Cell}
+use Rattle.map_meaning.specs.declared.known.OverAt.{OverAt}
+use Rattle.map_meaning.specs.declared.op.Op.{Op}
+use Rattle.map_meaning.specs.declared.tree.Statement.{Statement}
+use Rattle.map_meaning.specs.declared.tree.Tree.{Tree}
+use Rattle.map_meaning.specs.declared.tree.Tree.TheVariants as tree
+use Rattle.map_meaning.specs.declared.tree.Tree.TheVariants.{rolls-Call, rolls-Input, rolls-Name, rolls-Number}
+use Rattle.map_meaning.specs.declared.tree.Tree.TheFolds.{fold-roll-Tree}
+use Rattle.map_meaning.specs.declared.tree.Tree.TheOpen.{Tree-F}
+use Rattle.map_meaning.specs.Maps.{WholeMap}
+use Rattle.map_meaning.specs.Overs.{Scene}
+use Rattle.map_meaning.specs.Sections.{After, after_statements, assigned}
+use Rattle.map_meaning.specs.Trees.{TreeMeaning, meaning_of, meaning_level}
+
+-- ---- an expression, one level at a time
+
+-- a number
+pub meaning_of-Number : (kind : Kind) (cell : Cell) → meaning_of (tree.Number kind cell) ≡ meaning_level (Tree-F.Number kind cell)
+unfolding meaning_of
+meaning_of-Number kind cell = ap meaning_of (sym (rolls-Number kind cell)) ∙ fold-roll-Tree TreeMeaning meaning_level (Tree-F.Number kind cell)
+
+-- an input
+pub meaning_of-Input : (kind : Kind) (input : ℕ) → meaning_of (tree.Input kind input) ≡ meaning_level (Tree-F.Input kind input)
+unfolding meaning_of
+meaning_of-Input kind input = ap meaning_of (sym (rolls-Input kind input)) ∙ fold-roll-Tree TreeMeaning meaning_level (Tree-F.Input kind input)
+
+-- a name
+pub meaning_of-Name : (kind : Kind) (name : List ℕ) → meaning_of (tree.Name kind name) ≡ meaning_level (Tree-F.Name kind name)
+unfolding meaning_of
+meaning_of-Name kind name = ap meaning_of (sym (rolls-Name kind name)) ∙ fold-roll-Tree TreeMeaning meaning_level (Tree-F.Name kind name)
+
+-- an operation on operands
+pub meaning_of-Call : (kind : Kind) (op : Op) (operands : List Tree) → meaning_of (tree.Call kind op operands) ≡ meaning_level (Tree-F.Call kind op (map meaning_of operands))
+unfolding meaning_of
+meaning_of-Call kind op operands = ap meaning_of (sym (rolls-Call kind op operands)) ∙ fold-roll-Tree TreeMeaning meaning_level (Tree-F.Call kind op operands)
+
+-- ---- a section, one statement at a time
+
+-- a statement whose expression means this gives this map
+pub after_statements-map : (scene : Scene) (number : ℕ) (after : After) (s : Statement) (more : List Statement) (m : TreeMeaning) (cells : WholeMap) →
+    meaning_of s.value ≡ m → m.value (record { scene = scene; names = after.names; statement = number }) 0 ≡ Ok cells →
+    after_statements scene number after (s ∷ more) ≡ after_statements scene (number + 1) (assigned after s cells) more
+after_statements-map scene number after s more m cells means is =
+    ap (λ (x : TreeMeaning). x.value (record { scene = scene; names = after.names; statement = number }) 0 >>= λ cells. after_statements scene (number + 1) (assigned after s cells) more) means
+    ∙ ap (λ r. r >>= λ cells. after_statements scene (number + 1) (assigned after s cells) more) is
+
+-- a statement whose expression means this is Over
+pub after_statements-over : (scene : Scene) (number : ℕ) (after : After) (s : Statement) (more : List Statement) (m : TreeMeaning) (over : OverAt) →
+    meaning_of s.value ≡ m → m.value (record { scene = scene; names = after.names; statement = number }) 0 ≡ Err over →
+    after_statements scene number after (s ∷ more) ≡ Err over
+after_statements-over scene number after s more m over means is =
+    ap (λ (x : TreeMeaning). x.value (record { scene = scene; names = after.names; statement = number }) 0 >>= λ cells. after_statements scene (number + 1) (assigned after s cells) more) means
+    ∙ ap (λ r. r >>= λ cells. after_statements scene (number + 1) (assigned after s cells) more) is

@@ -1,0 +1,160 @@
+use Rattle.std.proofs.Common.{◌≡◌, ℕ, zero, suc, ◌<◌, List, [], ◌∷◌, refl, sym, ap, ◌∙◌, true, false, arith}
+use Rattle.std.specs.Prelude.{codes, pos, Ok, Err}
+use Rattle.cell_values.specs.declared.kind.Kind.{Kind}
+use Rattle.cell_values.specs.declared.kind.Kind.TheVariants.{Boolean, Nominal, Ordinal, Scalar}
+use Rattle.cell_values.specs.declared.cell.Cell.{Cell}
+use Rattle.cell_values.specs.declared.cell.Cell.TheVariants.{Val}
+use Rattle.cell_values.specs.Rounding.{nearest, nearest_size}
+use Rattle.map_meaning.specs.declared.op.Op.{Op}
+use Rattle.map_meaning.specs.declared.op.Op.TheVariants as op
+use Rattle.map_meaning.specs.declared.tree.Tree.{Tree}
+use Rattle.map_meaning.specs.declared.tree.Tree.TheVariants as tree
+use Rattle.map_meaning.specs.declared.tree.Tree.TheOpen.{Tree-F}
+use Rattle.map_meaning.specs.Evaluation.{operation_part}
+use Rattle.map_meaning.specs.Examples.{CellExamples, KindExamples, ProgramExamples, SectionExamples, grid, map_named, named, scene_over, statement, unassigned}
+use Rattle.map_meaning.specs.declared.tree.Statement.{Statement}
+use Rattle.map_meaning.specs.Overs.{Scene}
+use Rattle.map_meaning.specs.Sections.{After, after_statements, assigned}
+use Rattle.map_meaning.specs.Rules.{rule_of, kind_at}
+use Rattle.map_meaning.specs.Spans.{stage_of}
+use Rattle.map_meaning.specs.Table.{HasKinds, allows, ask_at, common_kind, row_of}
+use Rattle.map_meaning.specs.Trees.{TreeMeaning, meaning_of, meaning_level}
+use Rattle.map_meaning.proofs.Callers.{after_statements-map, after_statements-over, meaning_of-Call, meaning_of-Input, meaning_of-Name}
+use Rattle.map_meaning.proofs.laws.worked_examples_come_out.Goals as goal
+
+pub returns-clause-cells : goal.returns-clause-cells
+unfolding rule_of nearest nearest_size
+returns-clause-cells c = record {
+  if_else = refl;
+  if_then = refl;
+  covered = refl;
+  defined = refl;
+  divided = refl;
+  added = refl;
+  down = refl;
+  up = refl;
+  off = refl;
+  conjunction = refl;
+  disjunction = refl;
+  exclusion = refl;
+  less = refl;
+  turned = refl;
+  cut = refl;
+  too_large = refl;
+}
+
+-- ---- kinds
+
+three_places : (Q : ℕ → Type 0) → Q 0 → Q 1 → Q 2 → (i : ℕ) → i < 3 → Q i
+three_places Q a b c zero below = a
+three_places Q a b c (suc zero) below = b
+three_places Q a b c (suc (suc zero)) below = c
+three_places Q a b c (suc (suc (suc i))) below = absurd (omega arith)
+
+two_places : (Q : ℕ → Type 0) → Q 0 → Q 1 → (i : ℕ) → i < 2 → Q i
+two_places Q a b zero below = a
+two_places Q a b (suc zero) below = b
+two_places Q a b (suc (suc i)) below = absurd (omega arith)
+
+chosen : HasKinds (row_of op.IfElse) (Boolean ∷ Nominal ∷ Nominal ∷ []) Nominal
+unfolding row_of
+chosen = record {
+  count = refl;
+  each = let Q : ℕ → Type 0 = λ i. allows (common_kind (row_of op.IfElse) (Boolean ∷ Nominal ∷ Nominal ∷ [])) (ask_at (row_of op.IfElse) i) (kind_at (Boolean ∷ Nominal ∷ Nominal ∷ []) i) ≡ true in three_places Q refl refl refl;
+  gives = refl;
+}
+
+least : HasKinds (row_of op.Min) (Ordinal ∷ Ordinal ∷ []) Ordinal
+unfolding row_of
+least = record {
+  count = refl;
+  each = let Q : ℕ → Type 0 = λ i. allows (common_kind (row_of op.Min) (Ordinal ∷ Ordinal ∷ [])) (ask_at (row_of op.Min) i) (kind_at (Ordinal ∷ Ordinal ∷ []) i) ≡ true in two_places Q refl refl;
+  gives = refl;
+}
+
+apart : HasKinds (row_of op.IfElse) (Boolean ∷ Nominal ∷ Ordinal ∷ []) Nominal → ⊥
+unfolding row_of
+apart h = let e : false ≡ true = h.each 2 (omega arith) in cc
+
+unordered : HasKinds (row_of op.Min) (Nominal ∷ Nominal ∷ []) Nominal → ⊥
+unfolding row_of
+unordered h = let e : false ≡ true = h.each 0 (omega arith) in cc
+
+pub returns-clause-kinds : goal.returns-clause-kinds
+returns-clause-kinds c = record { chosen = chosen; least = least; apart = apart; unordered = unordered }
+
+pub returns-clause-programs : goal.returns-clause-programs
+unfolding stage_of operation_part rule_of
+returns-clause-programs c = record { within = refl; beyond = refl }
+
+-- ---- statements
+
+-- the grid
+grid_means : meaning_of grid ≡ meaning_level (Tree-F.Input Scalar 0)
+grid_means = meaning_of-Input Scalar 0
+
+-- a name
+name_means : (name : List ℕ) → meaning_of (named name) ≡ meaning_level (Tree-F.Name Scalar name)
+name_means name = meaning_of-Name Scalar name
+
+-- an operation on two operands
+pair_means : (o : Op) (x y : Tree) (mx my : TreeMeaning) → meaning_of x ≡ mx → meaning_of y ≡ my → meaning_of (tree.Call Scalar o (x ∷ y ∷ [])) ≡ meaning_level (Tree-F.Call Scalar o (mx ∷ my ∷ []))
+pair_means o x y mx my hx hy =
+    meaning_of-Call Scalar o (x ∷ y ∷ [])
+    ∙ (ap (λ m. meaning_level (Tree-F.Call Scalar o (m ∷ meaning_of y ∷ []))) hx ∙ ap (λ m. meaning_level (Tree-F.Call Scalar o (mx ∷ m ∷ []))) hy)
+
+-- the cells 1 and 2
+abbrev scene : Scene
+scene = scene_over 0 (Val (pos 1000000)) (Val (pos 2000000))
+
+-- the cells 2 and 4
+abbrev doubled_cells : List Cell
+doubled_cells = Val (pos 2000000) ∷ Val (pos 4000000) ∷ []
+
+abbrev start : After
+start = record { names = unassigned; maps = [] }
+
+abbrev first_sum : Statement
+first_sum = statement (codes "C") op.Add grid grid
+
+abbrev keeping : Statement
+keeping = record { target = codes "D"; value = named (codes "C") }
+
+abbrev going_back : Statement
+going_back = statement (codes "C") op.Sub (named (codes "C")) grid
+
+-- the three statements end with these maps
+ended : after_statements scene 1 start (first_sum ∷ keeping ∷ going_back ∷ []) ≡ Ok (assigned (assigned (assigned start first_sum doubled_cells) keeping doubled_cells) going_back (Val (pos 1000000) ∷ Val (pos 2000000) ∷ []))
+unfolding rule_of
+ended =
+    after_statements-map scene 1 start first_sum (keeping ∷ going_back ∷ []) _ doubled_cells (pair_means op.Add grid grid _ _ grid_means grid_means) refl
+    ∙ (after_statements-map scene 2 (assigned start first_sum doubled_cells) keeping (going_back ∷ []) _ doubled_cells (name_means (codes "C")) refl
+    ∙ after_statements-map scene 3 (assigned (assigned start first_sum doubled_cells) keeping doubled_cells) going_back [] _ (Val (pos 1000000) ∷ Val (pos 2000000) ∷ []) (pair_means op.Sub (named (codes "C")) grid _ _ (name_means (codes "C")) grid_means) refl)
+
+-- the cells 1 and 9,000,000,000,000 at step 3
+abbrev large : Scene
+large = scene_over 3 (Val (pos 1000000)) (Val (pos 9000000000000000000))
+
+abbrev emptied : Statement
+emptied = statement (codes "C") op.Sub grid grid
+
+abbrev difference : Tree
+difference = tree.Call Scalar op.Sub (grid ∷ named (codes "C") ∷ [])
+
+abbrev total : Tree
+total = tree.Call Scalar op.Add (difference ∷ grid ∷ [])
+
+abbrev multiplied : Statement
+multiplied = statement (codes "D") op.Mul grid total
+
+-- the sum is Over before the product
+over : after_statements large 1 start (emptied ∷ multiplied ∷ []) ≡ Err (record { step = 3; statement = 2; operation = 2; row = 1; col = 2 })
+unfolding rule_of
+over =
+    let inner = pair_means op.Sub grid (named (codes "C")) _ _ grid_means (name_means (codes "C")) in
+    let outer = pair_means op.Add difference grid _ _ inner grid_means in
+    after_statements-map large 1 start emptied (multiplied ∷ []) _ (Val (pos 0) ∷ Val (pos 0) ∷ []) (pair_means op.Sub grid grid _ _ grid_means grid_means) refl
+    ∙ after_statements-over large 2 (assigned start emptied (Val (pos 0) ∷ Val (pos 0) ∷ [])) multiplied [] _ (record { step = 3; statement = 2; operation = 2; row = 1; col = 2 }) (pair_means op.Mul grid total _ _ grid_means outer) refl
+
+pub returns-clause-sections : goal.returns-clause-sections
+returns-clause-sections c = record { last = ap (map_named (codes "C")) ended; above = ap (map_named (codes "D")) ended; first = ap (map_named (codes "D")) over }

@@ -1,0 +1,57 @@
+-- The value of a list of operations, one by one over whole maps.
+use Rattle.std.specs.Prelude.{ℕ, List, [], ◌∷◌, ◌++◌, map, Result, Ok}
+use Rattle.text_base.specs.Results.{◌>>=◌}
+use Rattle.tile_map.specs.Cuts.{cell_at}
+use Rattle.tile_map.specs.Parts.{Outcome, part_of}
+use Rattle.tile_map.specs.declared.part.Part.{Part}
+use Rattle.map_meaning.specs.declared.known.OverAt.{OverAt}
+use Rattle.map_meaning.specs.declared.known.Span.{Span}
+use Rattle.map_meaning.specs.declared.known.Span.TheVariants as span
+use Rattle.map_meaning.specs.declared.program.Operand.{Operand}
+use Rattle.map_meaning.specs.declared.program.Operand.TheVariants.{Unused, Literal, Input, Initial}
+use Rattle.map_meaning.specs.declared.program.Operation.{Operation}
+use Rattle.map_meaning.specs.declared.program.Program.{Program}
+use Rattle.map_meaning.specs.Maps.{WholeMap, CellAt, nowhere, nth}
+use Rattle.map_meaning.specs.Rules.{Setting, outcome_of}
+use Rattle.map_meaning.specs.Overs.{Scene, places_of, whole_or_over}
+use Rattle.map_meaning.specs.Programs.{kinds_of, operands_of}
+
+-- the maps of the operations that are done, by their numbers
+pub record Done : Type 0 where
+  pub initial : List WholeMap
+
+-- the same with the map of the next operation of the span
+abbrev pub with_map : Span → Done → WholeMap → Done
+with_map (span.Initial first end) done m = record { initial = done.initial ++ m ∷ [] }
+
+-- the maps of the operations of the span's section, by their numbers
+abbrev pub section_maps : Span → Done → List WholeMap
+section_maps (span.Initial first end) done = done.initial
+
+-- an operand by its places
+abbrev pub operand_cell : Scene → Done → Operand → CellAt
+operand_cell scene done Unused = nowhere
+operand_cell scene done (Literal kind cell) = λ place. cell
+operand_cell scene done (Input n) = cell_at (nth scene.inputs n)
+operand_cell scene done (Initial n) = cell_at (nth done.initial n)
+
+-- what an operation is told beside its operands
+abbrev pub setting_of : Program → Operation → Setting
+setting_of program o = record { kinds = kinds_of program o }
+
+-- what an operation gives at a place
+abbrev pub outcome_at : Program → Scene → Done → Operation → ℕ → Outcome
+outcome_at program scene done o = outcome_of o.op (setting_of program o) (map (operand_cell scene done) (operands_of o))
+
+-- the map of an operation, with a missing value where it is Over, and its first Over
+unfoldable pub operation_part : Program → Scene → Done → Operation → Part
+operation_part program scene done o = part_of (outcome_at program scene done o) (places_of scene)
+
+-- the map of an operation, or its first Over
+abbrev pub value_of : Program → Scene → Done → Operation → Result WholeMap OverAt
+value_of program scene done o = whole_or_over scene o.statement o.number (operation_part program scene done o)
+
+-- the maps of operations of a span in their order, or the first Over
+abbrev pub values_of : Program → Scene → Span → Done → List Operation → Result Done OverAt
+values_of program scene s done [] = Ok done
+values_of program scene s done (o ∷ more) = value_of program scene done o >>= λ m. values_of program scene s (with_map s done m) more

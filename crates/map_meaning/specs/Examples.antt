@@ -1,0 +1,159 @@
+-- Worked examples: what the definitions give at cells, programs and statements that were worked out by hand.
+use Rattle.std.specs.Prelude.{◌≡◌, ℕ, true, false, List, [], ◌∷◌, ℤ, pos, negsuc, Option, Some, None, Result, Ok, Err, map, codes}
+use Rattle.cell_values.specs.declared.kind.Kind.{Kind}
+use Rattle.cell_values.specs.declared.kind.Kind.TheVariants.{Boolean, Nominal, Ordinal, Scalar, Directional, Ldd}
+use Rattle.cell_values.specs.declared.cell.Cell.{Cell}
+use Rattle.cell_values.specs.declared.cell.Cell.TheVariants.{Mv, Val}
+use Rattle.tile_map.specs.Cuts.{cell_at}
+use Rattle.tile_map.specs.Parts.{part_of}
+use Rattle.map_meaning.specs.declared.op.Op.{Op}
+use Rattle.map_meaning.specs.declared.op.Op.TheVariants as op
+use Rattle.map_meaning.specs.declared.known.Known.{Known}
+use Rattle.map_meaning.specs.declared.known.OverAt.{OverAt}
+use Rattle.map_meaning.specs.declared.program.Operation.{Operation}
+use Rattle.map_meaning.specs.declared.program.Operand.TheVariants as from
+use Rattle.map_meaning.specs.declared.program.OutputKind.TheVariants.{InitialGrid}
+use Rattle.map_meaning.specs.declared.program.Program.{Program}
+use Rattle.map_meaning.specs.declared.program.Role.TheVariants.{Grid}
+use Rattle.map_meaning.specs.declared.tree.Statement.{Statement}
+use Rattle.map_meaning.specs.declared.tree.Tree.{Tree}
+use Rattle.map_meaning.specs.declared.tree.Tree.TheVariants as tree
+use Rattle.map_meaning.specs.Local.{truth}
+use Rattle.map_meaning.specs.Rules.{outcome_of}
+use Rattle.map_meaning.specs.Table.{HasKinds, row_of}
+use Rattle.map_meaning.specs.Overs.{Scene}
+use Rattle.map_meaning.specs.Sections.{After, section_value}
+use Rattle.map_meaning.specs.Spans.{stage_of, whole_span}
+
+-- ---- an operation at the places of maps
+
+-- the cells that an operation on these kinds gives at the places of some maps
+abbrev pub cells_of : Op → List Kind → List (List Cell) → ℕ → List Cell
+cells_of o kinds maps places = (part_of (outcome_of o (record { kinds = kinds }) (map cell_at maps)) places).cells
+
+-- the first place of these where it is Over
+abbrev pub over_of : Op → List Kind → List (List Cell) → ℕ → Option ℕ
+over_of o kinds maps places = (part_of (outcome_of o (record { kinds = kinds }) (map cell_at maps)) places).over
+
+-- 1, missing, 3
+abbrev pub first_map : List Cell
+first_map = Val (pos 1000000) ∷ Mv ∷ Val (pos 3000000) ∷ []
+
+-- missing, 5, 6
+abbrev pub second_map : List Cell
+second_map = Mv ∷ Val (pos 5000000) ∷ Val (pos 6000000) ∷ []
+
+-- true, false, missing
+abbrev pub condition : List Cell
+condition = Val (pos 1) ∷ Val (pos 0) ∷ Mv ∷ []
+
+-- -2.5, 2.5, -0.1 and 3
+abbrev pub near_whole : List Cell
+near_whole = Val (negsuc 2499999) ∷ Val (pos 2500000) ∷ Val (negsuc 99999) ∷ Val (pos 3000000) ∷ []
+
+-- false, false, true, true, false, true
+abbrev pub firsts : List Cell
+firsts = truth false ∷ truth false ∷ truth true ∷ truth true ∷ truth false ∷ truth true ∷ []
+
+-- false, true, false, true, missing, missing
+abbrev pub seconds : List Cell
+seconds = truth false ∷ truth true ∷ truth false ∷ truth true ∷ Mv ∷ Mv ∷ []
+
+-- what the operations on cells give at the places of these maps
+pub record CellExamples : Type 0 where
+  -- `if(C then A else B)`, `if(C then A)`, `cover(A, B)`, `defined(A)`
+  pub if_else : cells_of op.IfElse (Boolean ∷ Scalar ∷ Scalar ∷ []) (condition ∷ first_map ∷ second_map ∷ []) 3 ≡ Val (pos 1000000) ∷ Val (pos 5000000) ∷ Mv ∷ []
+  pub if_then : cells_of op.IfThen (Boolean ∷ Scalar ∷ []) (condition ∷ first_map ∷ []) 3 ≡ Val (pos 1000000) ∷ Mv ∷ Mv ∷ []
+  pub covered : cells_of op.Cover (Scalar ∷ Scalar ∷ []) (first_map ∷ second_map ∷ []) 3 ≡ Val (pos 1000000) ∷ Val (pos 5000000) ∷ Val (pos 3000000) ∷ []
+  pub defined : cells_of op.Defined (Scalar ∷ []) (first_map ∷ []) 3 ≡ truth true ∷ truth false ∷ truth true ∷ []
+  -- `1 / 0`, and a sum with a missing operand
+  pub divided : cells_of op.Div (Scalar ∷ Scalar ∷ []) ((Val (pos 1000000) ∷ []) ∷ (Val (pos 0) ∷ []) ∷ []) 1 ≡ Mv ∷ []
+  pub added : cells_of op.Add (Scalar ∷ Scalar ∷ []) ((Mv ∷ []) ∷ (Val (pos 1000000) ∷ []) ∷ []) 1 ≡ Mv ∷ []
+  -- whole numbers near -2.5, 2.5, -0.1 and 3
+  pub down : cells_of op.RoundDown (Scalar ∷ []) (near_whole ∷ []) 4 ≡ Val (negsuc 2999999) ∷ Val (pos 2000000) ∷ Val (negsuc 999999) ∷ Val (pos 3000000) ∷ []
+  pub up : cells_of op.RoundUp (Scalar ∷ []) (near_whole ∷ []) 4 ≡ Val (negsuc 1999999) ∷ Val (pos 3000000) ∷ Val (pos 0) ∷ Val (pos 3000000) ∷ []
+  pub off : cells_of op.RoundOff (Scalar ∷ []) (near_whole ∷ []) 4 ≡ Val (negsuc 2999999) ∷ Val (pos 3000000) ∷ Val (pos 0) ∷ Val (pos 3000000) ∷ []
+  -- truth tables and the order of booleans as numbers
+  pub conjunction : cells_of op.And (Boolean ∷ Boolean ∷ []) (firsts ∷ seconds ∷ []) 6 ≡ truth false ∷ truth false ∷ truth false ∷ truth true ∷ Mv ∷ Mv ∷ []
+  pub disjunction : cells_of op.Or (Boolean ∷ Boolean ∷ []) (firsts ∷ seconds ∷ []) 6 ≡ truth false ∷ truth true ∷ truth true ∷ truth true ∷ Mv ∷ Mv ∷ []
+  pub exclusion : cells_of op.Xor (Boolean ∷ Boolean ∷ []) (firsts ∷ seconds ∷ []) 6 ≡ truth false ∷ truth true ∷ truth true ∷ truth false ∷ Mv ∷ Mv ∷ []
+  pub less : cells_of op.Less (Ordinal ∷ Ordinal ∷ []) (firsts ∷ seconds ∷ []) 6 ≡ truth false ∷ truth true ∷ truth false ∷ truth false ∷ Mv ∷ Mv ∷ []
+  -- 725.5 as a direction, -2.9 as a class, and a scalar that is no class
+  pub turned : cells_of op.ToDirectional (Scalar ∷ []) ((Val (pos 725500000) ∷ []) ∷ []) 1 ≡ Val (pos 5500000) ∷ []
+  pub cut : cells_of op.ToNominal (Scalar ∷ []) ((Val (negsuc 2899999) ∷ []) ∷ []) 1 ≡ Val (negsuc 1) ∷ []
+  pub too_large : over_of op.ToNominal (Scalar ∷ []) ((Val (pos 1) ∷ Val (pos 2147483648000000) ∷ []) ∷ []) 2 ≡ Some 1
+
+-- ---- a program of one sum, `report C = A + A;`, over a grid of two columns
+
+-- its operation
+abbrev pub doubling : Operation
+doubling = record { op = op.Add; kind = Scalar; a = from.Input 0; b = from.Input 0; c = from.Unused; d = from.Unused; statement = 1; number = 1; kept = true }
+
+-- the program
+abbrev pub doubled : Program
+doubled = record {
+  inputs = record { file = codes "a.asc"; role = Grid; kind = Scalar } ∷ [];
+  initial = doubling ∷ [];
+  outputs = record { file = codes "C"; kind = InitialGrid; value = from.Initial 0; cell_kind = Scalar; statement = 1 } ∷ [];
+  area = 0;
+  steps = 0;
+}
+
+-- what is known of its grid
+abbrev pub over_grid : List Cell → Known
+over_grid cells = record { rows = 1; cols = 2; maps = cells ∷ []; initial = [] }
+
+-- what its span gives
+pub record ProgramExamples : Type 0 where
+  -- 1 and 2 give 2 and 4
+  pub within : stage_of doubled (whole_span doubled) (over_grid (Val (pos 1000000) ∷ Val (pos 2000000) ∷ [])) ≡ record { maps = record { step = 0; operation = 0; cells = Val (pos 2000000) ∷ Val (pos 4000000) ∷ [] } ∷ []; over = None }
+  -- 1 and 9,000,000,000,000 give the Over of step 0, statement 1, operation 1, row 1, column 2
+  pub beyond : stage_of doubled (whole_span doubled) (over_grid (Val (pos 1000000) ∷ Val (pos 9000000000000000000) ∷ [])) ≡ record { maps = []; over = Some (record { step = 0; statement = 1; operation = 1; row = 1; col = 2 }) }
+
+-- ---- statements over whole maps
+
+-- the statement `T = A op B`
+abbrev pub statement : List ℕ → Op → Tree → Tree → Statement
+statement target o first second = record { target = target; value = tree.Call Scalar o (first ∷ second ∷ []) }
+
+-- the grid
+abbrev pub grid : Tree
+grid = tree.Input Scalar 0
+
+-- a name
+abbrev pub named : List ℕ → Tree
+named name = tree.Name Scalar name
+
+-- a grid of two columns at a step
+abbrev pub scene_over : ℕ → Cell → Cell → Scene
+scene_over step first second = record { rows = 1; cols = 2; step = step; inputs = (first ∷ second ∷ []) ∷ [] }
+
+-- no name has a map
+abbrev pub unassigned : List ℕ → List Cell
+unassigned name = []
+
+-- the map of a name after a section
+abbrev pub map_named : List ℕ → Result After OverAt → Result (List Cell) OverAt
+map_named name (Ok after) = Ok (after.names name)
+map_named name (Err at) = Err at
+
+-- what sections of statements give
+pub record SectionExamples : Type 0 where
+  -- `C = A + A; D = C; C = C - A;` gives C the cells of A, and D those that C had above
+  pub last : map_named (codes "C") (section_value (scene_over 0 (Val (pos 1000000)) (Val (pos 2000000))) 1 unassigned (statement (codes "C") op.Add grid grid ∷ record { target = codes "D"; value = named (codes "C") } ∷ statement (codes "C") op.Sub (named (codes "C")) grid ∷ [])) ≡ Ok (Val (pos 1000000) ∷ Val (pos 2000000) ∷ [])
+  pub above : map_named (codes "D") (section_value (scene_over 0 (Val (pos 1000000)) (Val (pos 2000000))) 1 unassigned (statement (codes "C") op.Add grid grid ∷ record { target = codes "D"; value = named (codes "C") } ∷ statement (codes "C") op.Sub (named (codes "C")) grid ∷ [])) ≡ Ok (Val (pos 2000000) ∷ Val (pos 4000000) ∷ [])
+  -- `C = A - A; D = A * (A - C + A);` over 1 and 9,000,000,000,000 at step 3: of the operations that are Over the first counts
+  pub first : map_named (codes "D") (section_value (scene_over 3 (Val (pos 1000000)) (Val (pos 9000000000000000000))) 1 unassigned (statement (codes "C") op.Sub grid grid ∷ statement (codes "D") op.Mul grid (tree.Call Scalar op.Add (tree.Call Scalar op.Sub (grid ∷ named (codes "C") ∷ []) ∷ grid ∷ [])) ∷ [])) ≡ Err (record { step = 3; statement = 2; operation = 2; row = 1; col = 2 })
+
+-- ---- kinds
+
+-- what the table of operations allows
+pub record KindExamples : Type 0 where
+  -- `if(c then a else b)` gives the kind of its branches
+  pub chosen : HasKinds (row_of op.IfElse) (Boolean ∷ Nominal ∷ Nominal ∷ []) Nominal
+  -- `min` takes what has an order
+  pub least : HasKinds (row_of op.Min) (Ordinal ∷ Ordinal ∷ []) Ordinal
+  -- the branches of `if` agree
+  pub apart : HasKinds (row_of op.IfElse) (Boolean ∷ Nominal ∷ Ordinal ∷ []) Nominal → ⊥
+  -- classes have no order
+  pub unordered : HasKinds (row_of op.Min) (Nominal ∷ Nominal ∷ []) Nominal → ⊥

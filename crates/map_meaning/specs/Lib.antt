@@ -1,0 +1,15 @@
+pub mod Missing
+pub mod Whole
+pub mod Local
+pub mod Rules
+pub mod Table
+pub mod Maps
+pub mod Overs
+pub mod Trees
+pub mod Sections
+pub mod Programs
+pub mod Evaluation
+pub mod Onward
+pub mod Spans
+pub mod Limits
+pub mod Examples

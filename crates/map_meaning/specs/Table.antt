@@ -1,0 +1,118 @@
+-- The table of operations: the row of an operation, and the kinds that it allows.
+use Rattle.std.specs.Prelude.{◌≡◌, ℕ, ◌<◌, Bool, true, false, ◌&&◌, ◌==◌, List, length, slice_index_or, nat_le, nat_lt, min, IsTrue, if◌then◌else◌}
+use Rattle.cell_values.specs.declared.kind.Kind.{Kind}
+use Rattle.cell_values.specs.declared.kind.Kind.TheVariants.{Boolean, Nominal, Ordinal, Scalar, Directional, Ldd}
+use Rattle.map_meaning.specs.declared.op.Op.{Op}
+use Rattle.map_meaning.specs.declared.op.Op.TheVariants as op
+use Rattle.map_meaning.specs.declared.row.Row.{Row}
+use Rattle.map_meaning.specs.declared.row.Kinds.{Kinds}
+use Rattle.map_meaning.specs.declared.row.Ask.{Ask}
+use Rattle.map_meaning.specs.declared.row.Ask.TheVariants as ask
+use Rattle.map_meaning.specs.declared.row.Given.{Given}
+use Rattle.map_meaning.specs.declared.row.Given.TheVariants.{Always, Common, Same}
+use Rattle.map_meaning.specs.declared.table.TheConstants.{OPERATIONS, COPY, MANY_OPERANDS}
+use Rattle.map_meaning.specs.Rules.{kind_at}
+
+-- the kinds are the same
+abbrev pub is_kind : Kind → Kind → Bool
+is_kind Boolean Boolean = true
+is_kind Nominal Nominal = true
+is_kind Ordinal Ordinal = true
+is_kind Scalar Scalar = true
+is_kind Directional Directional = true
+is_kind Ldd Ldd = true
+is_kind _ _ = false
+
+-- the kind is one of these
+abbrev pub has_kind : Kinds → Kind → Bool
+has_kind kinds Boolean = kinds.boolean
+has_kind kinds Nominal = kinds.nominal
+has_kind kinds Ordinal = kinds.ordinal
+has_kind kinds Scalar = kinds.scalar
+has_kind kinds Directional = kinds.directional
+has_kind kinds Ldd = kinds.ldd
+
+-- the row of the table at a place
+abbrev pub line : ℕ → Row
+line n = slice_index_or OPERATIONS n COPY
+
+-- the row of an operation
+unfoldable pub row_of : Op → Row
+row_of op.CopyOf = COPY
+row_of op.Add = line 0
+row_of op.Sub = line 1
+row_of op.Mul = line 2
+row_of op.Div = line 3
+row_of op.IntDiv = line 4
+row_of op.IntMod = line 5
+row_of op.Neg = line 6
+row_of op.Abs = line 7
+row_of op.RoundDown = line 8
+row_of op.RoundUp = line 9
+row_of op.RoundOff = line 10
+row_of op.Min = line 11
+row_of op.Max = line 12
+row_of op.Equal = line 13
+row_of op.NotEqual = line 14
+row_of op.Less = line 15
+row_of op.LessEqual = line 16
+row_of op.Greater = line 17
+row_of op.GreaterEqual = line 18
+row_of op.And = line 19
+row_of op.Or = line 20
+row_of op.Xor = line 21
+row_of op.Not = line 22
+row_of op.IfThen = line 23
+row_of op.IfElse = line 24
+row_of op.Cover = line 25
+row_of op.Defined = line 26
+row_of op.ToBoolean = line 27
+row_of op.ToNominal = line 28
+row_of op.ToOrdinal = line 29
+row_of op.ToScalar = line 30
+row_of op.ToDirectional = line 31
+
+-- what the operand at this place is asked; those behind the third are asked what the third is
+abbrev pub ask_at : Row → ℕ → Ask
+ask_at row i = slice_index_or row.asks (min i 2) (ask.Only Scalar)
+
+-- the operand is asked to agree with others
+abbrev pub is_alike : Ask → Bool
+is_alike (ask.Alike kinds) = true
+is_alike _ = false
+
+-- the place of the first operand that is asked to agree with others
+abbrev pub first_alike : Row → ℕ
+first_alike row = if is_alike (ask_at row 0) then 0 else if is_alike (ask_at row 1) then 1 else 2
+
+-- the kind in which the operands agree
+abbrev pub common_kind : Row → List Kind → Kind
+common_kind row kinds = kind_at kinds (first_alike row)
+
+-- an operand of this kind may stand where others agree in the first kind
+abbrev pub allows : Kind → Ask → Kind → Bool
+allows common (ask.Only asked) kind = is_kind asked kind
+allows common (ask.One kinds) kind = has_kind kinds kind
+allows common (ask.Alike kinds) kind = has_kind kinds kind && is_kind common kind
+allows common _ kind = false
+
+-- the kind of the result
+abbrev pub given_kind : Given → Kind → List Kind → Kind
+given_kind (Always kind) common kinds = kind
+given_kind Common common kinds = common
+given_kind (Same i) common kinds = kind_at kinds i
+
+-- the row may be written with this many operands
+abbrev pub takes : Row → ℕ → Bool
+takes row count = nat_le row.least count && nat_le count row.most
+
+-- One operation of the row has this many operands. Where the row may be written with any number, more than the least are
+-- nested operations.
+abbrev pub has_count : Row → ℕ → Bool
+has_count row count = if nat_lt row.most MANY_OPERANDS then takes row count else (count == row.least)
+
+-- the row allows operands of these kinds, from the first on, and then gives this kind
+pub record HasKinds (row : Row) (kinds : List Kind) (kind : Kind) : Type 0 where
+  pub count : has_count row (length kinds) ≡ true
+  pub each : (i : ℕ) → i < length kinds → allows (common_kind row kinds) (ask_at row i) (kind_at kinds i) ≡ true
+  pub gives : given_kind row.gives (common_kind row kinds) kinds ≡ kind

@@ -1,0 +1,94 @@
+use crate::op::Op;
+use cell_values::{Cell, Kind, Word};
+use sqlite_items::Items;
+
+/// Where an operation's operand comes from.
+#[derive(Clone, Copy, Debug, PartialEq, Eq)]
+pub enum Operand {
+    /// The operation has no such operand.
+    Unused,
+    /// One cell of this kind at all places.
+    Literal(Kind, Cell),
+    /// The grid of the input with this number.
+    Input(u32),
+    /// The map of the operation of `initial` with this number.
+    Initial(u32),
+}
+
+/// One operation over whole maps. Its number is its place in the list of its section, counted from 0.
+#[derive(Clone, Copy, Debug, PartialEq, Eq)]
+pub struct Operation {
+    /// What it computes.
+    pub op: Op,
+    /// The kind of its map.
+    pub kind: Kind,
+    /// The first operand.
+    pub a: Operand,
+    /// The second operand.
+    pub b: Operand,
+    /// The third operand.
+    pub c: Operand,
+    /// The fourth operand.
+    pub d: Operand,
+    /// The statement that it belongs to, counted from 1.
+    pub statement: u32,
+    /// Its number among the operations of that statement, counted from 1 in post-order.
+    pub number: u32,
+    /// Its map is handed out.
+    pub kept: bool,
+}
+
+/// What an input is used as.
+#[derive(Clone, Copy, Debug, PartialEq, Eq)]
+pub enum Role {
+    /// A map that is read once.
+    Grid,
+}
+
+/// An input of a program.
+#[derive(Drop)]
+pub struct InputUse {
+    /// The file that it is read from.
+    pub file: Word,
+    /// What it is used as.
+    pub role: Role,
+    /// The kind of its cells.
+    pub kind: Kind,
+}
+
+/// What an output is written as.
+#[derive(Clone, Copy, Debug, PartialEq, Eq)]
+pub enum OutputKind {
+    /// One grid, after the section `initial`.
+    InitialGrid,
+}
+
+/// An output of a program.
+#[derive(Drop)]
+pub struct OutputUse {
+    /// The file that it is put as.
+    pub file: Word,
+    /// What it is written as.
+    pub kind: OutputKind,
+    /// The map that is written.
+    pub value: Operand,
+    /// The kind of that map.
+    pub cell_kind: Kind,
+    /// The statement that reports it, counted from 1.
+    pub statement: u32,
+}
+
+/// The operations of a script, with its inputs and its outputs.
+#[derive(Drop)]
+pub struct Program {
+    /// The inputs: the area map where it is a file alone, then those of the section `binding`, in its order.
+    pub inputs: Items<InputUse>,
+    /// The operations of the section `initial`, in the order of their evaluation.
+    pub initial: Items<Operation>,
+    /// The outputs, in the order of their statements.
+    pub outputs: Items<OutputUse>,
+    /// The number of the input that is the area map.
+    pub area: u32,
+    /// The last step; 0 where the script has no timer.
+    pub steps: u32,
+}

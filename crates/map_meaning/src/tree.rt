@@ -1,0 +1,29 @@
+use crate::op::Op;
+use cell_values::{Cell, Kind, Word};
+use sqlite_items::Items;
+
+/// An expression whose names, numbers and kinds are settled. Each form has the kind of its value.
+#[derive(Drop)]
+pub enum Tree {
+    /// A number.
+    Number { kind: Kind, cell: Cell },
+    /// The grid of the input with this number, which counts the program's inputs from 0.
+    Input { kind: Kind, input: u32 },
+    /// The map that a name has where the expression stands.
+    Name { kind: Kind, name: Word },
+    /// An operation. One that is written with more operands than it takes stands as nested calls, from the left.
+    Call {
+        kind: Kind,
+        op: Op,
+        operands: Items<Tree>,
+    },
+}
+
+/// A name for the value of an expression. A statement's number is its place in the script, counted from 1.
+#[derive(Drop)]
+pub struct Statement {
+    /// The name that is assigned.
+    pub target: Word,
+    /// The right side.
+    pub value: Tree,
+}
