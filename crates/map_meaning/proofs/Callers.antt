@@ -1,7 +1,8 @@
 -- What the crates above cite.
-use Rattle.std.proofs.Common.{◌≡◌, ℕ, ◌+◌, List, [], ◌∷◌, map, sym, ◌∙◌, ap, Ok, Err}
+use Rattle.std.proofs.Common.{◌≡◌, ℕ, ◌+◌, refl, true, List, [], ◌∷◌, map, sym, ◌∙◌, ap, Ok, Err}
 use Rattle.text_base.specs.Results.{◌>>=◌}
 use Rattle.cell_values.specs.declared.kind.Kind.{Kind}
+use Rattle.cell_values.specs.declared.kind.Kind.TheVariants.{Boolean, Nominal, Ordinal, Scalar, Directional, Ldd}
 use Rattle.cell_values.specs.declared.cell.Cell.{Cell}
 use Rattle.map_meaning.specs.declared.known.OverAt.{OverAt}
 use Rattle.map_meaning.specs.declared.op.Op.{Op}
@@ -14,6 +15,7 @@ use Rattle.map_meaning.specs.declared.tree.Tree.TheOpen.{Tree-F}
 use Rattle.map_meaning.specs.Maps.{WholeMap}
 use Rattle.map_meaning.specs.Overs.{Scene}
 use Rattle.map_meaning.specs.Sections.{After, after_statements, assigned}
+use Rattle.map_meaning.specs.Table.{is_kind}
 use Rattle.map_meaning.specs.Trees.{TreeMeaning, meaning_of, meaning_level}
 
 -- ---- an expression, one level at a time
@@ -55,3 +57,44 @@ pub after_statements-over : (scene : Scene) (number : ℕ) (after : After) (s : 
 after_statements-over scene number after s more m over means is =
     ap (λ (x : TreeMeaning). x.value (record { scene = scene; names = after.names; statement = number }) 0 >>= λ cells. after_statements scene (number + 1) (assigned after s cells) more) means
     ∙ ap (λ r. r >>= λ cells. after_statements scene (number + 1) (assigned after s cells) more) is
+
+-- ---- kinds
+
+-- kinds that pass the test are the same
+pub same_kind : (j k : Kind) → is_kind j k ≡ true → j ≡ k
+same_kind Boolean Boolean h = refl
+same_kind Boolean Nominal h = absurd (cc)
+same_kind Boolean Ordinal h = absurd (cc)
+same_kind Boolean Scalar h = absurd (cc)
+same_kind Boolean Directional h = absurd (cc)
+same_kind Boolean Ldd h = absurd (cc)
+same_kind Nominal Boolean h = absurd (cc)
+same_kind Nominal Nominal h = refl
+same_kind Nominal Ordinal h = absurd (cc)
+same_kind Nominal Scalar h = absurd (cc)
+same_kind Nominal Directional h = absurd (cc)
+same_kind Nominal Ldd h = absurd (cc)
+same_kind Ordinal Boolean h = absurd (cc)
+same_kind Ordinal Nominal h = absurd (cc)
+same_kind Ordinal Ordinal h = refl
+same_kind Ordinal Scalar h = absurd (cc)
+same_kind Ordinal Directional h = absurd (cc)
+same_kind Ordinal Ldd h = absurd (cc)
+same_kind Scalar Boolean h = absurd (cc)
+same_kind Scalar Nominal h = absurd (cc)
+same_kind Scalar Ordinal h = absurd (cc)
+same_kind Scalar Scalar h = refl
+same_kind Scalar Directional h = absurd (cc)
+same_kind Scalar Ldd h = absurd (cc)
+same_kind Directional Boolean h = absurd (cc)
+same_kind Directional Nominal h = absurd (cc)
+same_kind Directional Ordinal h = absurd (cc)
+same_kind Directional Scalar h = absurd (cc)
+same_kind Directional Directional h = refl
+same_kind Directional Ldd h = absurd (cc)
+same_kind Ldd Boolean h = absurd (cc)
+same_kind Ldd Nominal h = absurd (cc)
+same_kind Ldd Ordinal h = absurd (cc)
+same_kind Ldd Scalar h = absurd (cc)
+same_kind Ldd Directional h = absurd (cc)
+same_kind Ldd Ldd h = refl

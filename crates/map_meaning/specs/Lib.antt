@@ -13,3 +13,4 @@ pub mod Onward
 pub mod Spans
 pub mod Limits
 pub mod Examples
+pub mod Laws

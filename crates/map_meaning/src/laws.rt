@@ -1,6 +1,7 @@
 //! What holds of every model, in the subject's words.
 
 ghost use Rattle.map_meaning.specs.Examples.{CellExamples, KindExamples, ProgramExamples, SectionExamples};
+ghost use Rattle.map_meaning.specs.Laws.{ChangeTheirTargets, GiveWholeMaps, HaveOneRow, LieInTheirKind, SpreadMissing, TellTheLeastOver};
 
 /// Worked examples come out as they were worked out by hand.
 pub fn worked_examples_come_out()
@@ -8,4 +9,35 @@ pub fn worked_examples_come_out()
     ensures kinds { KindExamples }
     ensures programs { ProgramExamples }
     ensures sections { SectionExamples }
+{}
+
+/// Each operation has one row of the table of operations.
+pub fn operations_have_one_row()
+    ensures { HaveOneRow }
+{}
+
+/// The result of an operation is a cell of its kind where its operands' cells are of theirs.
+pub fn results_lie_in_their_kind()
+    ensures { LieInTheirKind }
+{}
+
+/// A missing operand gives a missing value, except in the choices and tests that look at what is missing.
+pub fn missing_operands_spread()
+    ensures { SpreadMissing }
+{}
+
+/// A statement changes the map of its target alone.
+pub fn statements_change_their_target()
+    ensures { ChangeTheirTargets }
+{}
+
+/// The first Over by statements and operations is the least of those that an evaluation notes which goes on behind
+/// them; where there is none, both give the same maps.
+pub fn first_over_is_the_least_noted()
+    ensures { TellTheLeastOver }
+{}
+
+/// Each map that a span gives has a cell for each place, of the kind of its operation.
+pub fn spans_give_whole_maps()
+    ensures { GiveWholeMaps }
 {}

@@ -17,7 +17,11 @@ mod table;
 mod tree;
 
 pub use known::{Known, OverAt, Span, StageEnd, StepMap};
-pub use laws::worked_examples_come_out;
+pub use laws::{
+    first_over_is_the_least_noted, missing_operands_spread, operations_have_one_row,
+    results_lie_in_their_kind, spans_give_whole_maps, statements_change_their_target,
+    worked_examples_come_out,
+};
 pub use map::Map;
 pub use op::Op;
 pub use program::{InputUse, Operand, Operation, OutputKind, OutputUse, Program, Role};

@@ -1,0 +1,241 @@
+-- The results of operations on cells, and the kinds that they lie in.
+use Rattle.std.proofs.Common.{◌≡◌, ℕ, ◌<◌, ◌≤◌, ◌&&◌, Bool, true, false, List, [], ◌∷◌, length, refl, sym, ap, subst, ◌∙◌, Ok, Err, cond, arith}
+use Rattle.std.specs.Prelude.{ℤ, pos, negsuc, suc, ◌-ℤ◌, ◌*ℤ◌, int_div, int_rem, unsigned_abs, ◌==◌, nat_le, int_le, int_lt, not, ◌||◌, ◌+ℤ◌, neg_ℤ}
+use Rattle.std.proofs.Math.Nat.{mod-le}
+use Rattle.std.proofs.lemmas.Int.{ints, quot-rem}
+use Rattle.std.specs.Ordering.{int_eq}
+use Rattle.std.proofs.lemmas.Bool.{and_parts}
+use Rattle.cell_values.specs.declared.kind.Kind.{Kind}
+use Rattle.cell_values.specs.declared.kind.Kind.TheVariants.{Boolean, Nominal, Ordinal, Scalar, Directional, Ldd}
+use Rattle.cell_values.specs.declared.cell.Cell.{Cell}
+use Rattle.cell_values.specs.declared.cell.Cell.TheVariants.{Mv, Val}
+use Rattle.cell_values.specs.Kinds.{IsCell, IsValue, cell_of, is_value}
+use Rattle.cell_values.specs.Arithmetic.{at_cells, divided_cells, remainder_of}
+use Rattle.cell_values.specs.Rounding.{cut_quotient, nearest, nearest_quotient}
+use Rattle.map_meaning.specs.Whole.{whole_above, whole_below, whole_nearest}
+use Rattle.cell_values.specs.Conversion.{conversion_of, converted}
+use Rattle.cell_values.proofs.Readings.{value-from_test}
+use Rattle.tile_map.specs.Parts.{Outcome}
+use Rattle.map_meaning.specs.declared.op.Op.{Op}
+use Rattle.map_meaning.specs.declared.op.Op.TheVariants as op
+use Rattle.map_meaning.specs.Laws.{HaveKindsAt, LiesIn, LieInTheirKind}
+use Rattle.map_meaning.specs.Local.{compared, cover_of, defined_of, if_else_of, if_then_of, is_either, is_one, truth}
+use Rattle.map_meaning.specs.Maps.{CellAt}
+use Rattle.map_meaning.specs.Missing.{at_cell}
+use Rattle.map_meaning.specs.Rules.{Setting, kind_at, operand_at, outcome_of, rule_of}
+use Rattle.map_meaning.specs.Table.{HasKinds, has_kind, is_kind, row_of}
+use Rattle.map_meaning.proofs.Callers.{same_kind}
+
+-- ---- outcomes by their form
+
+-- a number that is tested for its kind
+tested : (kind : Kind) (z : ℤ) (b : Bool) → is_value kind z ≡ b → LiesIn kind (cond b (Ok (Val z)) (Err (record {})))
+tested kind z true h = value-from_test kind z h
+tested kind z false h = tt
+
+of_number : (kind : Kind) (z : ℤ) → LiesIn kind (cell_of kind z)
+of_number kind z = tested kind z (is_value kind z) refl
+
+-- an operation on one number
+of_cell : (kind : Kind) (f : ℤ → Outcome) → ((a : ℤ) → LiesIn kind (f a)) → (x : Cell) → LiesIn kind (at_cell f x)
+of_cell kind f h Mv = tt
+of_cell kind f h (Val a) = h a
+
+-- an operation on two numbers
+of_cells : (kind : Kind) (f : ℤ → ℤ → Outcome) → ((a b : ℤ) → LiesIn kind (f a b)) → (x y : Cell) → LiesIn kind (at_cells f x y)
+of_cells kind f h Mv y = tt
+of_cells kind f h (Val a) Mv = tt
+of_cells kind f h (Val a) (Val b) = h a b
+
+-- a choice of two outcomes
+of_choice : (kind : Kind) (x y : Outcome) (b : Bool) → LiesIn kind x → LiesIn kind y → LiesIn kind (cond b x y)
+of_choice kind x y true hx hy = hx
+of_choice kind x y false hx hy = hy
+
+-- a choice of two cells
+of_cell_choice : (kind : Kind) (x y : Cell) (b : Bool) → IsCell kind x → IsCell kind y → IsCell kind (cond b x y)
+of_cell_choice kind x y true hx hy = hx
+of_cell_choice kind x y false hx hy = hy
+
+-- a division of two numbers
+of_division : (kind : Kind) (f : ℤ → ℤ → Outcome) → ((a b : ℤ) → LiesIn kind (f a b)) → (x y : Cell) → LiesIn kind (divided_cells f x y)
+of_division kind f h = of_cells kind (λ a b. cond (int_eq b (pos 0)) (Ok Mv) (f a b)) (λ a b. of_choice kind (Ok Mv) (f a b) (int_eq b (pos 0)) tt (h a b))
+
+-- operations on numbers whose results are tested as scalars
+of_one : (f : ℤ → ℤ) (x : Cell) → LiesIn Scalar (at_cell (λ a. cell_of Scalar (f a)) x)
+of_one f = of_cell Scalar (λ a. cell_of Scalar (f a)) (λ a. of_number Scalar (f a))
+
+of_numbers : (f : ℤ → ℤ → ℤ) (x y : Cell) → LiesIn Scalar (at_cells (λ a b. cell_of Scalar (f a b)) x y)
+of_numbers f = of_cells Scalar (λ a b. cell_of Scalar (f a b)) (λ a b. of_number Scalar (f a b))
+
+of_divided : (f : ℤ → ℤ → ℤ) (x y : Cell) → LiesIn Scalar (divided_cells (λ a b. cell_of Scalar (f a b)) x y)
+of_divided f = of_division Scalar (λ a b. cell_of Scalar (f a b)) (λ a b. of_number Scalar (f a b))
+
+-- a boolean
+of_truth : (b : Bool) → IsCell Boolean (truth b)
+of_truth true = value-from_test Boolean (pos 1) refl
+of_truth false = value-from_test Boolean (pos 0) refl
+
+-- a comparison
+of_comparison : (holds : ℤ → ℤ → Bool) (x y : Cell) → LiesIn Boolean (compared holds x y)
+of_comparison holds = of_cells Boolean (λ a b. Ok (truth (holds a b))) (λ a b. of_truth (holds a b))
+
+-- a conversion
+of_conversion : (from to : Kind) (x : Cell) → LiesIn to (conversion_of from to x)
+of_conversion from to Mv = tt
+of_conversion from to (Val z) = of_number to (converted from to z)
+
+-- the least and the greatest of two
+of_least : (kind : Kind) (x y : Cell) → IsCell kind x → IsCell kind y → LiesIn kind (at_cells (λ a b. Ok (Val (cond (int_le a b) a b))) x y)
+of_least kind Mv y hx hy = tt
+of_least kind (Val a) Mv hx hy = tt
+of_least kind (Val a) (Val b) hx hy = which (int_le a b)
+  where
+  which : (t : Bool) → IsCell kind (Val (cond t a b))
+  which true = hx
+  which false = hy
+
+of_greatest : (kind : Kind) (x y : Cell) → IsCell kind x → IsCell kind y → LiesIn kind (at_cells (λ a b. Ok (Val (cond (int_le a b) b a))) x y)
+of_greatest kind Mv y hx hy = tt
+of_greatest kind (Val a) Mv hx hy = tt
+of_greatest kind (Val a) (Val b) hx hy = which (int_le a b)
+  where
+  which : (t : Bool) → IsCell kind (Val (cond t b a))
+  which true = hy
+  which false = hx
+
+-- the choices
+of_if_then : (kind : Kind) (c x : Cell) → IsCell kind x → LiesIn kind (if_then_of c x)
+of_if_then kind Mv x hx = tt
+of_if_then kind (Val c) x hx = of_cell_choice kind x Mv (is_one c) hx tt
+
+of_if_else : (kind : Kind) (c x y : Cell) → IsCell kind x → IsCell kind y → LiesIn kind (if_else_of c x y)
+of_if_else kind Mv x y hx hy = tt
+of_if_else kind (Val c) x y hx hy = of_cell_choice kind x y (is_one c) hx hy
+
+of_cover : (kind : Kind) (x y : Cell) → IsCell kind x → IsCell kind y → LiesIn kind (cover_of x y)
+of_cover kind Mv y hx hy = hy
+of_cover kind (Val a) y hx hy = hx
+
+-- a test on what is defined
+of_defined : (x : Cell) → LiesIn Boolean (defined_of x)
+of_defined Mv = of_truth false
+of_defined (Val a) = of_truth true
+
+-- what is left of a number where another is taken away is no larger
+left_size : (a b : ℤ) → unsigned_abs (int_rem a b) ≤ unsigned_abs a
+left_size (pos n) b = mod-le n (unsigned_abs b)
+left_size (negsuc n) b = let h = mod-le (suc n) (unsigned_abs b) in grind (arith, ints)
+
+left_is : (a b : ℤ) → int_rem a b ≡ a -ℤ b *ℤ int_div a b
+left_is a b = omega (arith, ints, quot-rem a b)
+
+-- a number no larger than a scalar is one
+no_larger : (a z : ℤ) → IsValue Scalar a → unsigned_abs z ≤ unsigned_abs a → IsValue Scalar z
+no_larger a z h size = record { least = omega (arith, ints, size, h.least, h.greatest); greatest = omega (arith, ints, size, h.least, h.greatest) }
+
+-- what is left of a scalar is one
+of_left : (a b : Cell) → IsCell Scalar a → IsCell Scalar (remainder_of a b)
+of_left Mv b ha = tt
+of_left (Val a) Mv ha = tt
+of_left (Val a) (Val b) ha = of_cell_choice Scalar Mv (Val (a -ℤ (b *ℤ int_div a b))) (int_eq b (pos 0)) tt (subst (IsValue Scalar) (left_is a b) (no_larger a (int_rem a b) ha (left_size a b)))
+
+-- ---- how many operands there are
+
+exactly : (n k : ℕ) → (n == k) ≡ true → n ≡ k
+exactly n k h = grind arith
+
+from_least : (n low high : ℕ) → (nat_le low n && nat_le n high) ≡ true → low ≤ n
+from_least n low high h = let parts = and_parts (nat_le low n) (nat_le n high) h in grind (arith, parts.0)
+
+-- an operand that is asked to agree has the kind of the first
+agrees : (kinds : Bool) (j k : Kind) → (kinds && is_kind j k) ≡ true → j ≡ k
+agrees kinds j k h = same_kind j k (and_parts kinds (is_kind j k) h).1
+
+-- ---- the operations
+
+-- a result of this kind is one of the row's kind
+as_kind : (kind other : Kind) (outcome : Outcome) → kind ≡ other → LiesIn kind outcome → LiesIn other outcome
+as_kind kind other outcome same h = subst (λ k. LiesIn k outcome) same h
+
+-- an operation's result is a cell of its kind where its operands' cells are of theirs
+pub lies : (o : Op) (setting : Setting) (kind : Kind) (operands : List CellAt) (place : ℕ) → HasKinds (row_of o) setting.kinds kind → HaveKindsAt setting.kinds operands place → LiesIn kind (outcome_of o setting operands place)
+unfolding row_of rule_of
+lies op.CopyOf setting kind operands place h cells =
+    as_kind (kind_at setting.kinds 0) kind (Ok (operand_at operands 0 place)) h.gives (cells 0 (from_least _ 1 1 h.count))
+lies op.Add setting kind operands place h cells =
+    as_kind Scalar kind _ h.gives (of_numbers (λ a b. a +ℤ b) (operand_at operands 0 place) (operand_at operands 1 place))
+lies op.Sub setting kind operands place h cells =
+    as_kind Scalar kind _ h.gives (of_numbers (λ a b. a -ℤ b) (operand_at operands 0 place) (operand_at operands 1 place))
+lies op.Mul setting kind operands place h cells =
+    as_kind Scalar kind _ h.gives (of_numbers (λ a b. nearest (a *ℤ b) 1000000) (operand_at operands 0 place) (operand_at operands 1 place))
+lies op.Div setting kind operands place h cells =
+    as_kind Scalar kind _ h.gives (of_divided (λ a b. nearest_quotient (a *ℤ pos 1000000) b) (operand_at operands 0 place) (operand_at operands 1 place))
+lies op.IntDiv setting kind operands place h cells =
+    as_kind Scalar kind _ h.gives (of_divided (λ a b. cut_quotient a b *ℤ pos 1000000) (operand_at operands 0 place) (operand_at operands 1 place))
+lies op.IntMod setting kind operands place h cells =
+    let scalar : Scalar ≡ kind_at setting.kinds 0 = same_kind Scalar (kind_at setting.kinds 0) (h.each 0 below) in
+    as_kind Scalar kind (Ok (remainder_of (operand_at operands 0 place) (operand_at operands 1 place))) h.gives (of_left (operand_at operands 0 place) (operand_at operands 1 place) (subst (λ k. IsCell k (operand_at operands 0 place)) (sym scalar) (cells 0 below)))
+    where
+    below : 0 < length setting.kinds
+    below = omega (arith, from_least (length setting.kinds) 2 2 h.count)
+lies op.Neg setting kind operands place h cells =
+    as_kind Scalar kind _ h.gives (of_one (λ a. neg_ℤ a) (operand_at operands 0 place))
+lies op.Abs setting kind operands place h cells =
+    as_kind Scalar kind _ h.gives (of_one (λ a. pos (unsigned_abs a)) (operand_at operands 0 place))
+lies op.RoundDown setting kind operands place h cells =
+    as_kind Scalar kind _ h.gives (of_one (λ a. whole_below a) (operand_at operands 0 place))
+lies op.RoundUp setting kind operands place h cells =
+    as_kind Scalar kind _ h.gives (of_one (λ a. whole_above a) (operand_at operands 0 place))
+lies op.RoundOff setting kind operands place h cells =
+    as_kind Scalar kind _ h.gives (of_one (λ a. whole_nearest a) (operand_at operands 0 place))
+lies op.Min setting kind operands place h cells =
+    let two : length setting.kinds ≡ 2 = exactly _ 2 h.count in
+    let same = agrees _ _ _ (h.each 1 (omega (arith, two))) in
+    as_kind (kind_at setting.kinds 0) kind _ h.gives (of_least (kind_at setting.kinds 0) (operand_at operands 0 place) (operand_at operands 1 place) (cells 0 (omega (arith, two))) (subst (λ k. IsCell k (operand_at operands 1 place)) (sym same) (cells 1 (omega (arith, two)))))
+lies op.Max setting kind operands place h cells =
+    let two : length setting.kinds ≡ 2 = exactly _ 2 h.count in
+    let same = agrees _ _ _ (h.each 1 (omega (arith, two))) in
+    as_kind (kind_at setting.kinds 0) kind _ h.gives (of_greatest (kind_at setting.kinds 0) (operand_at operands 0 place) (operand_at operands 1 place) (cells 0 (omega (arith, two))) (subst (λ k. IsCell k (operand_at operands 1 place)) (sym same) (cells 1 (omega (arith, two)))))
+lies op.Cover setting kind operands place h cells =
+    let two : length setting.kinds ≡ 2 = exactly _ 2 h.count in
+    let same = agrees _ _ _ (h.each 1 (omega (arith, two))) in
+    as_kind (kind_at setting.kinds 0) kind _ h.gives (of_cover (kind_at setting.kinds 0) (operand_at operands 0 place) (operand_at operands 1 place) (cells 0 (omega (arith, two))) (subst (λ k. IsCell k (operand_at operands 1 place)) (sym same) (cells 1 (omega (arith, two)))))
+lies op.Equal setting kind operands place h cells =
+    as_kind Boolean kind _ h.gives (of_comparison (int_eq) (operand_at operands 0 place) (operand_at operands 1 place))
+lies op.NotEqual setting kind operands place h cells =
+    as_kind Boolean kind _ h.gives (of_comparison (λ a b. not (int_eq a b)) (operand_at operands 0 place) (operand_at operands 1 place))
+lies op.Less setting kind operands place h cells =
+    as_kind Boolean kind _ h.gives (of_comparison (int_lt) (operand_at operands 0 place) (operand_at operands 1 place))
+lies op.LessEqual setting kind operands place h cells =
+    as_kind Boolean kind _ h.gives (of_comparison (int_le) (operand_at operands 0 place) (operand_at operands 1 place))
+lies op.Greater setting kind operands place h cells =
+    as_kind Boolean kind _ h.gives (of_comparison (λ a b. int_lt b a) (operand_at operands 0 place) (operand_at operands 1 place))
+lies op.GreaterEqual setting kind operands place h cells =
+    as_kind Boolean kind _ h.gives (of_comparison (λ a b. int_le b a) (operand_at operands 0 place) (operand_at operands 1 place))
+lies op.And setting kind operands place h cells =
+    as_kind Boolean kind _ h.gives (of_comparison (λ a b. is_one a && is_one b) (operand_at operands 0 place) (operand_at operands 1 place))
+lies op.Or setting kind operands place h cells =
+    as_kind Boolean kind _ h.gives (of_comparison (λ a b. is_one a || is_one b) (operand_at operands 0 place) (operand_at operands 1 place))
+lies op.Xor setting kind operands place h cells =
+    as_kind Boolean kind _ h.gives (of_comparison (λ a b. is_either (is_one a) (is_one b)) (operand_at operands 0 place) (operand_at operands 1 place))
+lies op.Not setting kind operands place h cells =
+    as_kind Boolean kind _ h.gives (of_cell Boolean (λ a. Ok (truth (not (is_one a)))) (λ a. of_truth (not (is_one a))) (operand_at operands 0 place))
+lies op.IfThen setting kind operands place h cells =
+    as_kind (kind_at setting.kinds 1) kind _ h.gives (of_if_then (kind_at setting.kinds 1) (operand_at operands 0 place) (operand_at operands 1 place) (cells 1 (from_least _ 2 2 h.count)))
+lies op.IfElse setting kind operands place h cells =
+    let three : 3 ≤ length setting.kinds = from_least (length setting.kinds) 3 3 h.count in
+    let same = agrees _ _ _ (h.each 2 (omega (arith, three))) in
+    as_kind (kind_at setting.kinds 1) kind _ h.gives (of_if_else (kind_at setting.kinds 1) (operand_at operands 0 place) (operand_at operands 1 place) (operand_at operands 2 place) (cells 1 (omega (arith, three))) (subst (λ k. IsCell k (operand_at operands 2 place)) (sym same) (cells 2 (omega (arith, three)))))
+lies op.Defined setting kind operands place h cells =
+    as_kind Boolean kind _ h.gives (of_defined (operand_at operands 0 place))
+lies op.ToBoolean setting kind operands place h cells =
+    as_kind Boolean kind _ h.gives (of_conversion (kind_at setting.kinds 0) Boolean (operand_at operands 0 place))
+lies op.ToNominal setting kind operands place h cells =
+    as_kind Nominal kind _ h.gives (of_conversion (kind_at setting.kinds 0) Nominal (operand_at operands 0 place))
+lies op.ToOrdinal setting kind operands place h cells =
+    as_kind Ordinal kind _ h.gives (of_conversion (kind_at setting.kinds 0) Ordinal (operand_at operands 0 place))
+lies op.ToScalar setting kind operands place h cells =
+    as_kind Scalar kind _ h.gives (of_conversion (kind_at setting.kinds 0) Scalar (operand_at operands 0 place))
+lies op.ToDirectional setting kind operands place h cells =
+    as_kind Directional kind _ h.gives (of_conversion (kind_at setting.kinds 0) Directional (operand_at operands 0 place))

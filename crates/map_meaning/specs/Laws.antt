@@ -1,0 +1,107 @@
+-- What holds of all operations, statements and programs.
+use Rattle.std.specs.Prelude.{◌≡◌, ◌≢◌, ◌<◌, ℕ, ◌*◌, true, false, List, [], ◌∷◌, length, All, AllPairs, Contains, Result, Ok, Err, IfSome, slice_get, ◌⊎◌, ⊤}
+use Rattle.cell_values.specs.declared.kind.Kind.{Kind}
+use Rattle.cell_values.specs.declared.cell.Cell.{Cell}
+use Rattle.cell_values.specs.declared.cell.Cell.TheVariants.{Mv}
+use Rattle.cell_values.specs.Kinds.{IsCell}
+use Rattle.tile_map.specs.Parts.{Outcome}
+use Rattle.map_meaning.specs.declared.known.Known.{Known}
+use Rattle.map_meaning.specs.declared.known.OverAt.{OverAt}
+use Rattle.map_meaning.specs.declared.known.Span.{Span}
+use Rattle.map_meaning.specs.declared.known.StepMap.{StepMap}
+use Rattle.map_meaning.specs.declared.op.Op.{Op}
+use Rattle.map_meaning.specs.declared.program.Operation.{Operation}
+use Rattle.map_meaning.specs.declared.program.Program.{Program}
+use Rattle.map_meaning.specs.declared.row.Meant.TheVariants as meant
+use Rattle.map_meaning.specs.declared.row.Row.{Row}
+use Rattle.map_meaning.specs.declared.table.TheConstants.{OPERATIONS}
+use Rattle.map_meaning.specs.declared.tree.Statement.{Statement}
+use Rattle.map_meaning.specs.Evaluation.{Done, values_of}
+use Rattle.map_meaning.specs.Maps.{CellAt, IsMapOf, WholeMap}
+use Rattle.map_meaning.specs.Missing.{spreads_missing}
+use Rattle.map_meaning.specs.Onward.{ComesBefore, Onward, onward}
+use Rattle.map_meaning.specs.Overs.{Scene}
+use Rattle.map_meaning.specs.Programs.{IsWellFormed, StandsBefore}
+use Rattle.map_meaning.specs.Rules.{Setting, kind_at, operand_at, outcome_of}
+use Rattle.map_meaning.specs.Sections.{After, after_statements}
+use Rattle.map_meaning.specs.Spans.{IsSpan, Knows, stage_of}
+use Rattle.map_meaning.specs.Table.{HasKinds, row_of}
+
+-- ---- the table
+
+-- a row that means an operation is the row of that operation
+abbrev pub IsItsRow : Row → Type 0
+IsItsRow row = (o : Op) → row.meant ≡ meant.Op o → row_of o ≡ row
+
+-- each operation has a row that means it, and the table has no other
+pub record HaveOneRow : Type 0 where
+  pub row : (o : Op) → (row_of o).meant ≡ meant.Op o
+  pub only : All IsItsRow OPERATIONS
+
+-- ---- cells
+
+-- the cell of an outcome is one of the kind
+abbrev pub LiesIn : Kind → Outcome → Type 0
+LiesIn kind (Ok cell) = IsCell kind cell
+LiesIn kind (Err over) = ⊤
+
+-- the operands have cells of these kinds at the place
+abbrev pub HaveKindsAt : List Kind → List CellAt → ℕ → Type 0
+HaveKindsAt kinds operands place = (i : ℕ) → i < length kinds → IsCell (kind_at kinds i) (operand_at operands i place)
+
+-- where an operation's operands have cells of their kinds, its result is a cell of its kind
+abbrev pub LieInTheirKind : Type 0
+LieInTheirKind =
+    (o : Op) (setting : Setting) (kind : Kind) (operands : List CellAt) (place : ℕ) →
+    HasKinds (row_of o) setting.kinds kind → HaveKindsAt setting.kinds operands place → LiesIn kind (outcome_of o setting operands place)
+
+-- where one of its operands is missing, a result is missing, except where the policy on missing values says otherwise
+abbrev pub SpreadMissing : Type 0
+SpreadMissing =
+    (o : Op) (setting : Setting) (operands : List CellAt) (place i : ℕ) →
+    spreads_missing o ≡ true → i < (row_of o).least → operand_at operands i place ≡ Mv → outcome_of o setting operands place ≡ Ok Mv
+
+-- ---- statements
+
+-- one statement gave its target its map, and left all other names as they were
+pub record ChangesItsTarget (before after : After) (s : Statement) : Type 0 where
+  pub map : WholeMap
+  pub target : after.names s.target ≡ map
+  pub others : (name : List ℕ) → name ≢ s.target → after.names name ≡ before.names name
+
+-- what stands after a statement differs only at its target
+abbrev pub ChangeTheirTargets : Type 0
+ChangeTheirTargets =
+    (scene : Scene) (number : ℕ) (before after : After) (s : Statement) →
+    after_statements scene number before (s ∷ []) ≡ Ok after → ChangesItsTarget before after s
+
+-- ---- the first Over
+
+-- it is one of the notes, and all others are those of later operations
+pub record IsLeastOf (notes : List OverAt) (at : OverAt) : Type 0 where
+  pub noted : Contains notes at
+  pub least : All (λ note. (note ≡ at) ⊎ ComesBefore at note) notes
+
+-- the maps are those of the evaluation that went on, which noted nothing; or the Over is the least of its notes
+abbrev pub TellsLeast : Result Done OverAt → Onward → Type 0
+TellsLeast (Ok done) o = (o.notes ≡ []) × (o.done ≡ done)
+TellsLeast (Err at) o = IsLeastOf o.notes at
+
+-- The first Over of operations in their order is the least of those that the evaluation which goes on notes.
+abbrev pub TellTheLeastOver : Type 0
+TellTheLeastOver =
+    (program : Program) (scene : Scene) (s : Span) (done : Done) (operations : List Operation) → AllPairs StandsBefore operations →
+    TellsLeast (values_of program scene s done operations) (onward program scene s done operations)
+
+-- ---- kept maps
+
+-- a kept map has a cell for each place, of the kind of its operation
+abbrev pub IsWholeMap : Program → ℕ → StepMap → Type 0
+IsWholeMap program places kept = IfSome (slice_get program.initial kept.operation) (λ o. IsMapOf places o.kind kept.cells)
+
+-- each map that a span gives has all its cells, and they are of its operation's kind
+abbrev pub GiveWholeMaps : Type 0
+GiveWholeMaps =
+    (program : Program) (s : Span) (known : Known) (block : ℕ) →
+    IsWellFormed program → IsSpan program s block → Knows program s known →
+    All (IsWholeMap program (known.rows * known.cols)) (stage_of program s known).maps
