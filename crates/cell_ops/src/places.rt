@@ -1,0 +1,167 @@
+//! The loop over places, and the choice of the operands' shapes before it.
+
+ghost use Rattle.std.specs.Prelude.{◌≡◌, ◌≤◌, IfOk};
+ghost use Rattle.text_base.specs.Limits.{most_cells};
+ghost use Rattle.cell_values.specs.declared.cell.Cell.TheVariants.{Mv};
+ghost use Rattle.tile_map.specs.Args.{Covers, arg_cell};
+ghost use Rattle.tile_map.specs.Parts.{part_of};
+
+use crate::rule::CellRule;
+use crate::shape::{Each, Everywhere, Nowhere, Shape};
+use cell_values::{Cell, Cells};
+use map_meaning::{Arg, Part};
+use std::alloc::{AllocError, Global};
+
+// The outcomes of a rule at all places.
+#[tactic(auto, using(crate::proofs::PlaceLemmas::places_more))]
+fn each_place<R: CellRule, A: Shape, B: Shape, C: Shape>(
+    alloc: Global,
+    rule: &R,
+    len: usize,
+    a: &A,
+    b: &B,
+    c: &C,
+) -> Result<Part, AllocError>
+    requires few { len ≤ most_cells }
+    requires a { A.covers a.now len }
+    requires b { B.covers b.now len }
+    requires c { C.covers c.now len }
+    ensures { IfOk result (λ part. part ≡ part_of (λ place. R.rule rule.now (A.cell a.now place) (B.cell b.now place) (C.cell c.now place)) len) }
+{
+    let mut cells = Vec::with_capacity(alloc, len)?;
+    let mut over = None;
+    for place in 0..len {
+        match rule.at(a.at(place, len), b.at(place, len), c.at(place, len)) {
+            Ok(cell) => cells.push(cell)?,
+            Err(_) => {
+                cells.push(Cell::Mv)?;
+                if over.is_none() {
+                    over = Some(place as u32);
+                }
+            }
+        }
+    }
+    Ok(Part {
+        cells: Cells::from_vec(cells),
+        over,
+    })
+}
+
+/// The outcomes of a rule of one operand.
+pub fn one<R: CellRule>(alloc: Global, rule: &R, len: usize, a: Arg<'_>) -> Result<Part, AllocError>
+    requires few { len ≤ most_cells }
+    requires a { Covers a len }
+    ensures { IfOk result (λ part. part ≡ part_of (λ place. R.rule rule.now (arg_cell a.entry place) Mv Mv) len) }
+{
+    match a {
+        Arg::Unused => each_place(alloc, rule, len, &Nowhere, &Nowhere, &Nowhere),
+        Arg::One(cell) => each_place(alloc, rule, len, &Everywhere(cell), &Nowhere, &Nowhere),
+        Arg::Cells(cells) => each_place(alloc, rule, len, &Each(cells), &Nowhere, &Nowhere),
+    }
+}
+
+// The outcomes of a rule of two operands, of which the first has its shape.
+fn one_more<R: CellRule, A: Shape>(
+    alloc: Global,
+    rule: &R,
+    len: usize,
+    a: &A,
+    b: Arg<'_>,
+) -> Result<Part, AllocError>
+    requires few { len ≤ most_cells }
+    requires a { A.covers a.now len }
+    requires b { Covers b len }
+    ensures { IfOk result (λ part. part ≡ part_of (λ place. R.rule rule.now (A.cell a.now place) (arg_cell b.entry place) Mv) len) }
+{
+    match b {
+        Arg::Unused => each_place(alloc, rule, len, a, &Nowhere, &Nowhere),
+        Arg::One(cell) => each_place(alloc, rule, len, a, &Everywhere(cell), &Nowhere),
+        Arg::Cells(cells) => each_place(alloc, rule, len, a, &Each(cells), &Nowhere),
+    }
+}
+
+/// The outcomes of a rule of two operands.
+pub fn two<R: CellRule>(
+    alloc: Global,
+    rule: &R,
+    len: usize,
+    a: Arg<'_>,
+    b: Arg<'_>,
+) -> Result<Part, AllocError>
+    requires few { len ≤ most_cells }
+    requires a { Covers a len }
+    requires b { Covers b len }
+    ensures { IfOk result (λ part. part ≡ part_of (λ place. R.rule rule.now (arg_cell a.entry place) (arg_cell b.entry place) Mv) len) }
+{
+    match a {
+        Arg::Unused => one_more(alloc, rule, len, &Nowhere, b),
+        Arg::One(cell) => one_more(alloc, rule, len, &Everywhere(cell), b),
+        Arg::Cells(cells) => one_more(alloc, rule, len, &Each(cells), b),
+    }
+}
+
+// The outcomes of a rule of three operands, of which the first two have their shapes.
+fn last_more<R: CellRule, A: Shape, B: Shape>(
+    alloc: Global,
+    rule: &R,
+    len: usize,
+    a: &A,
+    b: &B,
+    c: Arg<'_>,
+) -> Result<Part, AllocError>
+    requires few { len ≤ most_cells }
+    requires a { A.covers a.now len }
+    requires b { B.covers b.now len }
+    requires c { Covers c len }
+    ensures { IfOk result (λ part. part ≡ part_of (λ place. R.rule rule.now (A.cell a.now place) (B.cell b.now place) (arg_cell c.entry place)) len) }
+{
+    match c {
+        Arg::Unused => each_place(alloc, rule, len, a, b, &Nowhere),
+        Arg::One(cell) => each_place(alloc, rule, len, a, b, &Everywhere(cell)),
+        Arg::Cells(cells) => each_place(alloc, rule, len, a, b, &Each(cells)),
+    }
+}
+
+// The outcomes of a rule of three operands, of which the first has its shape.
+fn two_more<R: CellRule, A: Shape>(
+    alloc: Global,
+    rule: &R,
+    len: usize,
+    a: &A,
+    b: Arg<'_>,
+    c: Arg<'_>,
+) -> Result<Part, AllocError>
+    requires few { len ≤ most_cells }
+    requires a { A.covers a.now len }
+    requires b { Covers b len }
+    requires c { Covers c len }
+    ensures { IfOk result (λ part. part ≡ part_of (λ place. R.rule rule.now (A.cell a.now place) (arg_cell b.entry place) (arg_cell c.entry place)) len) }
+{
+    match b {
+        Arg::Unused => last_more(alloc, rule, len, a, &Nowhere, c),
+        Arg::One(cell) => last_more(alloc, rule, len, a, &Everywhere(cell), c),
+        Arg::Cells(cells) => last_more(alloc, rule, len, a, &Each(cells), c),
+    }
+}
+
+/// The outcomes of a rule of three operands.
+pub fn three<R: CellRule>(
+    alloc: Global,
+    rule: &R,
+    len: usize,
+    a: Arg<'_>,
+    b: Arg<'_>,
+    c: Arg<'_>,
+) -> Result<Part, AllocError>
+    requires few { len ≤ most_cells }
+    requires a { Covers a len }
+    requires b { Covers b len }
+    requires c { Covers c len }
+    ensures { IfOk result (λ part. part ≡ part_of (λ place. R.rule rule.now (arg_cell a.entry place) (arg_cell b.entry place) (arg_cell c.entry place)) len) }
+{
+    match a {
+        Arg::Unused => two_more(alloc, rule, len, &Nowhere, b, c),
+        Arg::One(cell) => two_more(alloc, rule, len, &Everywhere(cell), b, c),
+        Arg::Cells(cells) => two_more(alloc, rule, len, &Each(cells), b, c),
+    }
+}
