@@ -4,7 +4,7 @@ ghost use Rattle.std.specs.Prelude.{◌≡◌, ◌≤◌, IfOk};
 ghost use Rattle.text_base.specs.Limits.{most_cells};
 ghost use Rattle.cell_values.specs.declared.kind.Kind.TheVariants as kind;
 ghost use Rattle.cell_values.specs.Conversion.{IsConversion, conversion_of};
-ghost use Rattle.tile_map.specs.Args.{Covers, arg_cell};
+ghost use Rattle.tile_map.specs.Args.{SpansPlaces, arg_cell};
 ghost use Rattle.tile_map.specs.Parts.{part_of};
 
 use crate::places::one;
@@ -111,7 +111,7 @@ pub fn converted(
 ) -> Result<Part, AllocError>
     requires conversion { IsConversion from to }
     requires few { len ≤ most_cells }
-    requires a { Covers a len }
+    requires a { SpansPlaces a len }
     ensures { IfOk result (λ part. part ≡ part_of (λ place. conversion_of from to (arg_cell a.entry place)) len) }
 {
     match to {

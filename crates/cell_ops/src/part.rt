@@ -1,6 +1,6 @@
 ghost use Rattle.std.specs.Prelude.{◌≡◌, ◌≤◌, IfOk, true};
 ghost use Rattle.text_base.specs.Limits.{most_cells};
-ghost use Rattle.tile_map.specs.Args.{Covers, arg_cell};
+ghost use Rattle.tile_map.specs.Args.{SpansPlaces, arg_cell};
 ghost use Rattle.tile_map.specs.Parts.{part_of};
 ghost use Rattle.cell_ops.specs.Work.{IsWork, is_plain, work_outcome};
 ghost use Rattle.cell_ops.specs.declared.work.CellWork.TheVariants.{Plain};
@@ -32,9 +32,9 @@ fn plain(
 ) -> Result<Part, AllocError>
     requires plain { is_plain op ≡ true }
     requires few { len ≤ most_cells }
-    requires a { Covers a len }
-    requires b { Covers b len }
-    requires c { Covers c len }
+    requires a { SpansPlaces a len }
+    requires b { SpansPlaces b len }
+    requires c { SpansPlaces c len }
     ensures { IfOk result (λ part. part ≡ part_of (λ place. work_outcome (Plain op) (arg_cell a.entry place) (arg_cell b.entry place) (arg_cell c.entry place) (arg_cell d.entry place)) len) }
 {
     let _ = d;
@@ -89,10 +89,10 @@ pub fn cell_part(
 ) -> Result<Part, AllocError>
     requires work { IsWork work }
     requires few { len ≤ most_cells }
-    requires a { Covers a len }
-    requires b { Covers b len }
-    requires c { Covers c len }
-    requires d { Covers d len }
+    requires a { SpansPlaces a len }
+    requires b { SpansPlaces b len }
+    requires c { SpansPlaces c len }
+    requires d { SpansPlaces d len }
     ensures { IfOk result (λ part. part ≡ part_of (λ place. work_outcome work (arg_cell a.entry place) (arg_cell b.entry place) (arg_cell c.entry place) (arg_cell d.entry place)) len) }
 {
     match work {

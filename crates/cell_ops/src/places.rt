@@ -3,7 +3,7 @@
 ghost use Rattle.std.specs.Prelude.{◌≡◌, ◌≤◌, IfOk};
 ghost use Rattle.text_base.specs.Limits.{most_cells};
 ghost use Rattle.cell_values.specs.declared.cell.Cell.TheVariants.{Mv};
-ghost use Rattle.tile_map.specs.Args.{Covers, arg_cell};
+ghost use Rattle.tile_map.specs.Args.{SpansPlaces, arg_cell};
 ghost use Rattle.tile_map.specs.Parts.{part_of};
 
 use crate::rule::CellRule;
@@ -13,7 +13,6 @@ use map_meaning::{Arg, Part};
 use std::alloc::{AllocError, Global};
 
 // The outcomes of a rule at all places.
-#[tactic(auto, using(crate::proofs::PlaceLemmas::places_more))]
 fn each_place<R: CellRule, A: Shape, B: Shape, C: Shape>(
     alloc: Global,
     rule: &R,
@@ -50,7 +49,7 @@ fn each_place<R: CellRule, A: Shape, B: Shape, C: Shape>(
 /// The outcomes of a rule of one operand.
 pub fn one<R: CellRule>(alloc: Global, rule: &R, len: usize, a: Arg<'_>) -> Result<Part, AllocError>
     requires few { len ≤ most_cells }
-    requires a { Covers a len }
+    requires a { SpansPlaces a len }
     ensures { IfOk result (λ part. part ≡ part_of (λ place. R.rule rule.now (arg_cell a.entry place) Mv Mv) len) }
 {
     match a {
@@ -70,7 +69,7 @@ fn one_more<R: CellRule, A: Shape>(
 ) -> Result<Part, AllocError>
     requires few { len ≤ most_cells }
     requires a { A.covers a.now len }
-    requires b { Covers b len }
+    requires b { SpansPlaces b len }
     ensures { IfOk result (λ part. part ≡ part_of (λ place. R.rule rule.now (A.cell a.now place) (arg_cell b.entry place) Mv) len) }
 {
     match b {
@@ -89,8 +88,8 @@ pub fn two<R: CellRule>(
     b: Arg<'_>,
 ) -> Result<Part, AllocError>
     requires few { len ≤ most_cells }
-    requires a { Covers a len }
-    requires b { Covers b len }
+    requires a { SpansPlaces a len }
+    requires b { SpansPlaces b len }
     ensures { IfOk result (λ part. part ≡ part_of (λ place. R.rule rule.now (arg_cell a.entry place) (arg_cell b.entry place) Mv) len) }
 {
     match a {
@@ -112,7 +111,7 @@ fn last_more<R: CellRule, A: Shape, B: Shape>(
     requires few { len ≤ most_cells }
     requires a { A.covers a.now len }
     requires b { B.covers b.now len }
-    requires c { Covers c len }
+    requires c { SpansPlaces c len }
     ensures { IfOk result (λ part. part ≡ part_of (λ place. R.rule rule.now (A.cell a.now place) (B.cell b.now place) (arg_cell c.entry place)) len) }
 {
     match c {
@@ -133,8 +132,8 @@ fn two_more<R: CellRule, A: Shape>(
 ) -> Result<Part, AllocError>
     requires few { len ≤ most_cells }
     requires a { A.covers a.now len }
-    requires b { Covers b len }
-    requires c { Covers c len }
+    requires b { SpansPlaces b len }
+    requires c { SpansPlaces c len }
     ensures { IfOk result (λ part. part ≡ part_of (λ place. R.rule rule.now (A.cell a.now place) (arg_cell b.entry place) (arg_cell c.entry place)) len) }
 {
     match b {
@@ -154,9 +153,9 @@ pub fn three<R: CellRule>(
     c: Arg<'_>,
 ) -> Result<Part, AllocError>
     requires few { len ≤ most_cells }
-    requires a { Covers a len }
-    requires b { Covers b len }
-    requires c { Covers c len }
+    requires a { SpansPlaces a len }
+    requires b { SpansPlaces b len }
+    requires c { SpansPlaces c len }
     ensures { IfOk result (λ part. part ≡ part_of (λ place. R.rule rule.now (arg_cell a.entry place) (arg_cell b.entry place) (arg_cell c.entry place)) len) }
 {
     match a {

@@ -1,22 +1,26 @@
 -- What the crates above cite.
-use Rattle.std.proofs.Common.{◌≡◌, ℕ, ◌+◌, refl, true, List, [], ◌∷◌, map, sym, ◌∙◌, ap, Ok, Err}
+use Rattle.std.proofs.Common.{◌≡◌, ℕ, ◌+◌, refl, true, List, [], ◌∷◌, ◌++◌, length, map, sym, ◌∙◌, ap, Ok, Err, Result, arith}
 use Rattle.text_base.specs.Results.{◌>>=◌}
 use Rattle.cell_values.specs.declared.kind.Kind.{Kind}
 use Rattle.cell_values.specs.declared.kind.Kind.TheVariants.{Boolean, Nominal, Ordinal, Scalar, Directional, Ldd}
 use Rattle.cell_values.specs.declared.cell.Cell.{Cell}
 use Rattle.map_meaning.specs.declared.known.OverAt.{OverAt}
+use Rattle.map_meaning.specs.declared.known.Span.{Span}
 use Rattle.map_meaning.specs.declared.op.Op.{Op}
+use Rattle.map_meaning.specs.declared.program.Operation.{Operation}
+use Rattle.map_meaning.specs.declared.program.Program.{Program}
 use Rattle.map_meaning.specs.declared.tree.Statement.{Statement}
 use Rattle.map_meaning.specs.declared.tree.Tree.{Tree}
 use Rattle.map_meaning.specs.declared.tree.Tree.TheVariants as tree
 use Rattle.map_meaning.specs.declared.tree.Tree.TheVariants.{rolls-Call, rolls-Input, rolls-Name, rolls-Number}
 use Rattle.map_meaning.specs.declared.tree.Tree.TheFolds.{fold-roll-Tree}
 use Rattle.map_meaning.specs.declared.tree.Tree.TheOpen.{Tree-F}
+use Rattle.map_meaning.specs.Evaluation.{Done, value_of, values_of, with_map}
 use Rattle.map_meaning.specs.Maps.{WholeMap}
-use Rattle.map_meaning.specs.Overs.{Scene}
+use Rattle.map_meaning.specs.Scenes.{Scene}
 use Rattle.map_meaning.specs.Sections.{After, after_statements, assigned}
 use Rattle.map_meaning.specs.Table.{is_kind}
-use Rattle.map_meaning.specs.Trees.{TreeMeaning, meaning_of, meaning_level}
+use Rattle.map_meaning.specs.Trees.{TreeMeaning, meaning_of, meaning_level, value_of_tree}
 
 -- ---- an expression, one level at a time
 
@@ -98,3 +102,29 @@ same_kind Ldd Ordinal h = absurd (cc)
 same_kind Ldd Scalar h = absurd (cc)
 same_kind Ldd Directional h = absurd (cc)
 same_kind Ldd Ldd h = refl
+
+-- ---- lists in two parts
+
+-- a step behind two others
+next_two : {A B C E : Type 0} (r : Result A E) (f : A → Result B E) (g : B → Result C E) (h : A → Result C E) → ((a : A) → h a ≡ f a >>= g) → r >>= h ≡ (r >>= f) >>= g
+next_two (Ok a) f g h same = same a
+next_two (Err e) f g h same = refl
+
+-- what statements give is what the later ones give behind the earlier ones
+pub after_statements-append : (scene : Scene) (number : ℕ) (before : After) (earlier later : List Statement) →
+    after_statements scene number before (earlier ++ later) ≡ after_statements scene number before earlier >>= λ after. after_statements scene (number + length earlier) after later
+after_statements-append scene number before [] later = let same : number ≡ number + 0 = omega arith in ap (λ n. after_statements scene n before later) same
+after_statements-append scene number before (s ∷ more) later =
+    let same : number + 1 + length more ≡ number + length (s ∷ more) = omega arith in
+    let value = value_of_tree (record { scene = scene; names = before.names; statement = number }) s.value in
+    next_two value (λ m. after_statements scene (number + 1) (assigned before s m) more) (λ after. after_statements scene (number + 1 + length more) after later) (λ m. after_statements scene (number + 1) (assigned before s m) (more ++ later))
+    (λ m. after_statements-append scene (number + 1) (assigned before s m) more later)
+    ∙ ap (λ n. after_statements scene number before (s ∷ more) >>= λ after. after_statements scene n after later) same
+
+-- what operations give is what the later ones give behind the earlier ones
+pub values_of-append : (program : Program) (scene : Scene) (s : Span) (done : Done) (earlier later : List Operation) →
+    values_of program scene s done (earlier ++ later) ≡ values_of program scene s done earlier >>= λ after. values_of program scene s after later
+values_of-append program scene s done [] later = refl
+values_of-append program scene s done (o ∷ more) later =
+    next_two (value_of program scene done o) (λ m. values_of program scene s (with_map s done m) more) (λ after. values_of program scene s after later) (λ m. values_of program scene s (with_map s done m) (more ++ later))
+    (λ m. values_of-append program scene s (with_map s done m) more later)

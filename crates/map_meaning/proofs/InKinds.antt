@@ -1,12 +1,12 @@
 -- The results of operations on cells, and the kinds that they lie in.
-use Rattle.std.proofs.Common.{◌≡◌, ℕ, ◌<◌, ◌≤◌, ◌&&◌, Bool, true, false, List, [], ◌∷◌, length, refl, sym, ap, subst, ◌∙◌, Ok, Err, cond, arith}
+use Rattle.std.proofs.Common.{◌≡◌, ℕ, ◌<◌, ◌≤◌, ◌&&◌, Bool, true, false, List, length, refl, sym, subst, Ok, Err, cond, arith}
 use Rattle.std.specs.Prelude.{ℤ, pos, negsuc, suc, ◌-ℤ◌, ◌*ℤ◌, int_div, int_rem, unsigned_abs, ◌==◌, nat_le, int_le, int_lt, not, ◌||◌, ◌+ℤ◌, neg_ℤ}
 use Rattle.std.proofs.Math.Nat.{mod-le}
 use Rattle.std.proofs.lemmas.Int.{ints, quot-rem}
 use Rattle.std.specs.Ordering.{int_eq}
 use Rattle.std.proofs.lemmas.Bool.{and_parts}
 use Rattle.cell_values.specs.declared.kind.Kind.{Kind}
-use Rattle.cell_values.specs.declared.kind.Kind.TheVariants.{Boolean, Nominal, Ordinal, Scalar, Directional, Ldd}
+use Rattle.cell_values.specs.declared.kind.Kind.TheVariants.{Boolean, Nominal, Ordinal, Scalar, Directional}
 use Rattle.cell_values.specs.declared.cell.Cell.{Cell}
 use Rattle.cell_values.specs.declared.cell.Cell.TheVariants.{Mv, Val}
 use Rattle.cell_values.specs.Kinds.{IsCell, IsValue, cell_of, is_value}
@@ -18,12 +18,12 @@ use Rattle.cell_values.proofs.Readings.{value-from_test}
 use Rattle.tile_map.specs.Parts.{Outcome}
 use Rattle.map_meaning.specs.declared.op.Op.{Op}
 use Rattle.map_meaning.specs.declared.op.Op.TheVariants as op
-use Rattle.map_meaning.specs.Laws.{HaveKindsAt, LiesIn, LieInTheirKind}
+use Rattle.map_meaning.specs.Laws.{HaveKindsAt, LiesIn}
 use Rattle.map_meaning.specs.Local.{compared, cover_of, defined_of, if_else_of, if_then_of, is_either, is_one, truth}
 use Rattle.map_meaning.specs.Maps.{CellAt}
 use Rattle.map_meaning.specs.Missing.{at_cell}
 use Rattle.map_meaning.specs.Rules.{Setting, kind_at, operand_at, outcome_of, rule_of}
-use Rattle.map_meaning.specs.Table.{HasKinds, has_kind, is_kind, row_of}
+use Rattle.map_meaning.specs.Table.{HasKinds, is_kind, row_of}
 use Rattle.map_meaning.proofs.Callers.{same_kind}
 
 -- ---- outcomes by their form
@@ -91,18 +91,18 @@ of_least kind Mv y hx hy = tt
 of_least kind (Val a) Mv hx hy = tt
 of_least kind (Val a) (Val b) hx hy = which (int_le a b)
   where
-  which : (t : Bool) → IsCell kind (Val (cond t a b))
-  which true = hx
-  which false = hy
+    which : (t : Bool) → IsCell kind (Val (cond t a b))
+    which true = hx
+    which false = hy
 
 of_greatest : (kind : Kind) (x y : Cell) → IsCell kind x → IsCell kind y → LiesIn kind (at_cells (λ a b. Ok (Val (cond (int_le a b) b a))) x y)
 of_greatest kind Mv y hx hy = tt
 of_greatest kind (Val a) Mv hx hy = tt
 of_greatest kind (Val a) (Val b) hx hy = which (int_le a b)
   where
-  which : (t : Bool) → IsCell kind (Val (cond t b a))
-  which true = hy
-  which false = hx
+    which : (t : Bool) → IsCell kind (Val (cond t b a))
+    which true = hy
+    which false = hx
 
 -- the choices
 of_if_then : (kind : Kind) (c x : Cell) → IsCell kind x → LiesIn kind (if_then_of c x)
@@ -158,8 +158,8 @@ agrees kinds j k h = same_kind j k (and_parts kinds (is_kind j k) h).1
 as_kind : (kind other : Kind) (outcome : Outcome) → kind ≡ other → LiesIn kind outcome → LiesIn other outcome
 as_kind kind other outcome same h = subst (λ k. LiesIn k outcome) same h
 
--- an operation's result is a cell of its kind where its operands' cells are of theirs
-pub lies : (o : Op) (setting : Setting) (kind : Kind) (operands : List CellAt) (place : ℕ) → HasKinds (row_of o) setting.kinds kind → HaveKindsAt setting.kinds operands place → LiesIn kind (outcome_of o setting operands place)
+-- an operation's result is a cell of its kind where its operands' cells at the place are of theirs
+lies : (o : Op) (setting : Setting) (kind : Kind) (operands : List CellAt) (place : ℕ) → HasKinds (row_of o) setting.kinds kind → HaveKindsAt setting.kinds operands place → LiesIn kind (outcome_of o setting operands place)
 unfolding row_of rule_of
 lies op.CopyOf setting kind operands place h cells =
     as_kind (kind_at setting.kinds 0) kind (Ok (operand_at operands 0 place)) h.gives (cells 0 (from_least _ 1 1 h.count))
@@ -176,7 +176,7 @@ lies op.IntDiv setting kind operands place h cells =
 lies op.IntMod setting kind operands place h cells =
     let scalar : Scalar ≡ kind_at setting.kinds 0 = same_kind Scalar (kind_at setting.kinds 0) (h.each 0 below) in
     as_kind Scalar kind (Ok (remainder_of (operand_at operands 0 place) (operand_at operands 1 place))) h.gives (of_left (operand_at operands 0 place) (operand_at operands 1 place) (subst (λ k. IsCell k (operand_at operands 0 place)) (sym scalar) (cells 0 below)))
-    where
+  where
     below : 0 < length setting.kinds
     below = omega (arith, from_least (length setting.kinds) 2 2 h.count)
 lies op.Neg setting kind operands place h cells =
@@ -239,3 +239,7 @@ lies op.ToScalar setting kind operands place h cells =
     as_kind Scalar kind _ h.gives (of_conversion (kind_at setting.kinds 0) Scalar (operand_at operands 0 place))
 lies op.ToDirectional setting kind operands place h cells =
     as_kind Directional kind _ h.gives (of_conversion (kind_at setting.kinds 0) Directional (operand_at operands 0 place))
+
+-- the same where they are at all places of a map
+pub in_kind : (o : Op) (setting : Setting) (kind : Kind) (operands : List CellAt) (places place : ℕ) → HasKinds (row_of o) setting.kinds kind → ((other : ℕ) → other < places → HaveKindsAt setting.kinds operands other) → place < places → LiesIn kind (outcome_of o setting operands place)
+in_kind o setting kind operands places place h cells below = lies o setting kind operands place h (cells place below)

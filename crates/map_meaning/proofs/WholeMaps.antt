@@ -1,37 +1,33 @@
 -- Maps with all their cells, of their kind: those of operations whose operands are such.
-use Rattle.std.proofs.Common.{◌≡◌, ℕ, zero, suc, ◌+◌, ◌*◌, ◌-◌, ◌<◌, ◌≤◌, Bool, true, false, cond, List, [], ◌∷◌, ◌++◌, length, get_or, take, drop, map, refl, sym, ap, subst, ◌∙◌, Ok, Err, Result, arith, ◌⊎◌, inl, inr, length-append, add-one}
-use Rattle.std.specs.Prelude.{All, Option, None, Some, IfSome, slice_get, option_map, ⊤, slice_range}
-use Rattle.std.specs.List.{filter_map, cons_option, list_all, range_with_len}
+use Rattle.std.proofs.Common.{◌≡◌, ℕ, zero, suc, ◌+◌, ◌<◌, ◌≤◌, Bool, true, false, cond, List, [], ◌∷◌, ◌++◌, length, map, refl, sym, ap, subst, ◌∙◌, Ok, Err, Result, arith, ◌⊎◌, inl, inr, length-append}
+use Rattle.std.specs.Prelude.{All, Option, None, Some, IfSome, slice_get, option_map, ⊤}
+use Rattle.std.specs.List.{filter_map, cons_option, list_all}
 use Rattle.std.proofs.lemmas.List.{get_or_append_left}
 use Rattle.std.proofs.Math.Seq.{get_or-append_seam}
 use Rattle.std.proofs.lemmas.List.Elements.{All-cons, All-nil, All-from_get_or}
-use Rattle.std.proofs.lemmas.List.FromFn.{get_or-map-range_with_len, length-map-range_with_len}
 use Rattle.std.proofs.lemmas.Option.{slice_get_within}
 use Rattle.text_base.specs.Results.{◌>>=◌}
 use Rattle.cell_values.specs.declared.kind.Kind.{Kind}
-use Rattle.cell_values.specs.declared.cell.Cell.{Cell}
 use Rattle.cell_values.specs.declared.cell.Cell.TheVariants.{Mv}
 use Rattle.cell_values.specs.Kinds.{IsCell}
 use Rattle.tile_map.specs.Cuts.{cell_at}
-use Rattle.tile_map.specs.Parts.{Outcome, or_missing, part_of}
-use Rattle.map_meaning.specs.declared.known.Known.{Known}
+use Rattle.tile_map.specs.Parts.{IsPart, Outcome, or_missing, part_of}
 use Rattle.map_meaning.specs.declared.known.OverAt.{OverAt}
-use Rattle.map_meaning.specs.declared.known.Span.{Span}
 use Rattle.map_meaning.specs.declared.known.Span.TheVariants as span
-use Rattle.map_meaning.specs.declared.known.StepMap.{StepMap}
 use Rattle.map_meaning.specs.declared.program.InputUse.{InputUse}
 use Rattle.map_meaning.specs.declared.program.Operand.{Operand}
 use Rattle.map_meaning.specs.declared.program.Operand.TheVariants.{Unused, Literal, Input, Initial}
 use Rattle.map_meaning.specs.declared.program.Operation.{Operation}
 use Rattle.map_meaning.specs.declared.program.Program.{Program}
-use Rattle.map_meaning.specs.Evaluation.{Done, operand_cell, operation_part, outcome_at, setting_of, value_of, values_of, with_map}
+use Rattle.map_meaning.specs.Evaluation.{Done, operand_cell, operation_part, outcome_at, value_of, values_of, with_map}
 use Rattle.map_meaning.specs.Laws.{HaveKindsAt, IsWholeMap, LiesIn}
 use Rattle.map_meaning.specs.Maps.{CellAt, IsMapOf, WholeMap, nth}
-use Rattle.map_meaning.specs.Overs.{Scene, map_or_over, over_at, places_of}
+use Rattle.map_meaning.specs.Scenes.{Scene, places_of, setting_in}
+use Rattle.map_meaning.specs.Overs.{map_or_over}
 use Rattle.map_meaning.specs.Programs.{AreOperations, IsBelow, IsOperation, are_used_first, is_unused, kinds_of, operand_kind, operands_of}
-use Rattle.map_meaning.specs.Rules.{kind_at, operand_at}
 use Rattle.map_meaning.specs.Spans.{AreInputMaps, kept_maps}
-use Rattle.map_meaning.proofs.InKinds.{lies}
+use Rattle.tile_map.proofs.Callers.{is_part-part_of}
+use Rattle.map_meaning.proofs.InKinds.{in_kind}
 
 -- ---- cells of maps
 
@@ -62,16 +58,17 @@ one_more_done program places n maps o m done here whole = record {
   each = λ k p below is. at_place k p is (nat_cases k n below);
 }
   where
-  nat_cases : (k n : ℕ) → k < n + 1 → (k < n) ⊎ (k ≡ n)
-  nat_cases k n below = grind arith
-  at_place : (k : ℕ) (p : Operation) → slice_get program.initial k ≡ Some p → (k < n) ⊎ (k ≡ n) → IsMapOf places p.kind (nth (maps ++ m ∷ []) k)
-  at_place k p is (inl below) = let c : length maps ≡ n = done.count in subst (IsMapOf places p.kind) (sym (get_or_append_left maps (m ∷ []) [] k (omega arith))) (done.each k p below is)
-  at_place k p is (inr same) =
-      let c : k ≡ length maps = same ∙ sym done.count in
-      let op : o ≡ p = (let both : Some o ≡ Some p = sym here ∙ (ap (slice_get program.initial) (sym same) ∙ is) in cc) in
-      let cells : nth (maps ++ m ∷ []) k ≡ m = ap (nth (maps ++ m ∷ [])) c ∙ get_or-append_seam maps m [] [] in
-      let P : Operation → Type 0 = λ x. IsMapOf places x.kind m in
-      subst (IsMapOf places p.kind) (sym cells) (subst P op whole)
+    nat_cases : (k n : ℕ) → k < n + 1 → (k < n) ⊎ (k ≡ n)
+    nat_cases k n below = grind arith
+
+    at_place : (k : ℕ) (p : Operation) → slice_get program.initial k ≡ Some p → (k < n) ⊎ (k ≡ n) → IsMapOf places p.kind (nth (maps ++ m ∷ []) k)
+    at_place k p is (inl below) = let c : length maps ≡ n = done.count in subst (IsMapOf places p.kind) (sym (get_or_append_left maps (m ∷ []) [] k (omega arith))) (done.each k p below is)
+    at_place k p is (inr same) =
+        let c : k ≡ length maps = same ∙ sym done.count in
+        let op : o ≡ p = (let both : Some o ≡ Some p = sym here ∙ (ap (slice_get program.initial) (sym same) ∙ is) in cc) in
+        let cells : nth (maps ++ m ∷ []) k ≡ m = ap (nth (maps ++ m ∷ [])) c ∙ get_or-append_seam maps m [] [] in
+        let P : Operation → Type 0 = λ x. IsMapOf places x.kind m in
+        subst (IsMapOf places p.kind) (sym cells) (subst P op whole)
 
 -- the cell of an outcome in a kind is one of it
 cell_of_outcome : (kind : Kind) (outcome : Outcome) → LiesIn kind outcome → IsCell kind (or_missing outcome)
@@ -80,12 +77,14 @@ cell_of_outcome kind (Err over) h = tt
 
 -- the part of outcomes in a kind has a map of the kind
 pub part_whole : (f : ℕ → Outcome) (places : ℕ) (kind : Kind) → ((place : ℕ) → place < places → LiesIn kind (f place)) → IsMapOf places kind (part_of f places).cells
-part_whole f places kind each = record {
-  count = length-map-range_with_len (λ place. or_missing (f place)) 0 places;
-  cells = All-from_get_or (IsCell kind) (map (λ place. or_missing (f place)) (range_with_len 0 places)) Mv (λ i below.
-    let within : i < places = omega (arith, below, length-map-range_with_len (λ place. or_missing (f place)) 0 places) in
-    subst (IsCell kind) (sym (get_or-map-range_with_len (λ place. or_missing (f place)) 0 places i i Mv within (omega arith))) (cell_of_outcome kind (f i) (each i within)));
-}
+part_whole f places kind each =
+    let part : IsPart f places (part_of f places) = is_part-part_of f places in
+    record {
+      count = part.size;
+      cells = All-from_get_or (IsCell kind) (part_of f places).cells Mv (λ i below.
+          let within : i < places = omega (arith, below, part.size) in
+          subst (IsCell kind) (sym (part.cells i within)) (cell_of_outcome kind (f i) (each i within)));
+    }
 
 -- an item below the length of a list is there
 there : {X : Type 0} (xs : List X) (k : ℕ) → k < length xs → (x : X) × (slice_get xs k ≡ Some x)
@@ -140,7 +139,7 @@ module _ (program : Program) (scene : Scene) (n : ℕ) (done : Done) (inputs : A
       HaveKindsAt kinds cells place → HaveKindsAt (cons_option (operand_kind program operand) kinds) (operand_cell scene done operand ∷ cells) place
   operand_found operand kinds cells place below found within rest =
       subst (λ o. HaveKindsAt (cons_option o kinds) (operand_cell scene done operand ∷ cells) place) (sym found.1)
-        (operand_before operand found.0 kinds cells place (operand_in operand place found.0 below found.1 within) rest)
+      (operand_before operand found.0 kinds cells place (operand_in operand place found.0 below found.1 within) rest)
 
   module _ (enough : n ≤ length program.initial) where
     -- the cells of operands are of the operands' kinds
@@ -162,7 +161,7 @@ module _ (program : Program) (scene : Scene) (n : ℕ) (done : Done) (inputs : A
     -- the map of an operation has a cell for each place, of its kind
     pub map_whole : (o : Operation) → IsOperation program n o → IsMapOf (places_of scene) o.kind (operation_part program scene done o).cells
     unfolding operation_part
-    map_whole o is = part_whole (outcome_at program scene done o) (places_of scene) o.kind (λ place within. lies o.op (setting_of program o) o.kind (map (operand_cell scene done) (operands_of o)) place is.kinds (operands_in (operands_of o) place is.used (is.a, (is.b, (is.c, (is.d, tt)))) within))
+    map_whole o is = part_whole (outcome_at program scene done o) (places_of scene) o.kind (λ place within. in_kind o.op (setting_in scene (kinds_of program o)) o.kind (map (operand_cell scene done) (operands_of o)) (places_of scene) place is.kinds (λ other below. operands_in (operands_of o) other is.used (is.a, (is.b, (is.c, (is.d, tt)))) below) within)
 
 -- ---- the maps of operations
 
@@ -187,19 +186,19 @@ values_done program scene first end n done after [] inputs all are from is =
 values_done program scene first end n done after (o ∷ more) inputs all are from is =
     behind_first (value_of program scene done o) refl is (λ m next gives. values_done program scene first end (n + 1) (with_map (span.Initial first end) done m) after more inputs next are.1 from.1 gives)
   where
-  behind_first : (r : Result WholeMap OverAt) → value_of program scene done o ≡ r → (r >>= λ m. values_of program scene (span.Initial first end) (with_map (span.Initial first end) done m) more) ≡ Ok after →
-      ((m : WholeMap) → AreDone program (places_of scene) (n + 1) (done.initial ++ m ∷ []) → values_of program scene (span.Initial first end) (with_map (span.Initial first end) done m) more ≡ Ok after → AreDone program (places_of scene) (n + 1 + length more) after.initial) →
-      AreDone program (places_of scene) (n + length (o ∷ more)) after.initial
-  behind_first (Err at) value is later = absurd (cc)
-  behind_first (Ok m) value is later =
-      let part = operation_part program scene done o in
-      let cells : part.cells ≡ m = gave scene o.statement o.number part.over part.cells m value in
-      let enough : n < length program.initial = slice_get_within program.initial n o from.0 in
-      let whole : IsMapOf (places_of scene) o.kind m = subst (IsMapOf (places_of scene) o.kind) cells (map_whole program scene n done inputs all (omega (arith, enough)) o are.0) in
-      let next : AreDone program (places_of scene) (n + 1) (done.initial ++ m ∷ []) = one_more_done program (places_of scene) n done.initial o m all from.0 whole in
-      let Q : ℕ → Type 0 = λ k. AreDone program (places_of scene) k after.initial in
-      let same : n + 1 + length more ≡ n + length (o ∷ more) = omega arith in
-      subst Q same (later m next is)
+    behind_first : (r : Result WholeMap OverAt) → value_of program scene done o ≡ r → (r >>= λ m. values_of program scene (span.Initial first end) (with_map (span.Initial first end) done m) more) ≡ Ok after →
+        ((m : WholeMap) → AreDone program (places_of scene) (n + 1) (done.initial ++ m ∷ []) → values_of program scene (span.Initial first end) (with_map (span.Initial first end) done m) more ≡ Ok after → AreDone program (places_of scene) (n + 1 + length more) after.initial) →
+        AreDone program (places_of scene) (n + length (o ∷ more)) after.initial
+    behind_first (Err at) value is later = absurd (cc)
+    behind_first (Ok m) value is later =
+        let part = operation_part program scene done o in
+        let cells : part.cells ≡ m = gave scene o.statement o.number part.over part.cells m value in
+        let enough : n < length program.initial = slice_get_within program.initial n o from.0 in
+        let whole : IsMapOf (places_of scene) o.kind m = subst (IsMapOf (places_of scene) o.kind) cells (map_whole program scene n done inputs all (omega (arith, enough)) o are.0) in
+        let next : AreDone program (places_of scene) (n + 1) (done.initial ++ m ∷ []) = one_more_done program (places_of scene) n done.initial o m all from.0 whole in
+        let Q : ℕ → Type 0 = λ k. AreDone program (places_of scene) k after.initial in
+        let same : n + 1 + length more ≡ n + length (o ∷ more) = omega arith in
+        subst Q same (later m next is)
 
 -- ---- kept maps
 
@@ -208,8 +207,9 @@ pub kept_whole : (program : Program) (places step n count : ℕ) (maps : List Wh
 kept_whole program places step n count maps [] all few from = All-nil (IsWholeMap program places)
 kept_whole program places step n count maps (o ∷ more) all few from = one_kept o.kept (kept_whole program places step (n + 1) count maps more all (omega arith) from.1)
   where
-  whole : IsWholeMap program places (record { step = step; operation = n; cells = nth maps n })
-  whole = let P : Option Operation → Type 0 = λ found. IfSome found (λ o. IsMapOf places o.kind (nth maps n)) in subst P (sym from.0) (all.each n o (omega (arith, few)) from.0)
-  one_kept : (kept : Bool) → All (IsWholeMap program places) (kept_maps step maps (n + 1) more) → All (IsWholeMap program places) (cond kept (record { step = step; operation = n; cells = nth maps n } ∷ kept_maps step maps (n + 1) more) (kept_maps step maps (n + 1) more))
-  one_kept true rest = All-cons (IsWholeMap program places) (record { step = step; operation = n; cells = nth maps n }) (kept_maps step maps (n + 1) more) whole rest
-  one_kept false rest = rest
+    whole : IsWholeMap program places (record { step = step; operation = n; cells = nth maps n })
+    whole = let P : Option Operation → Type 0 = λ found. IfSome found (λ o. IsMapOf places o.kind (nth maps n)) in subst P (sym from.0) (all.each n o (omega (arith, few)) from.0)
+
+    one_kept : (kept : Bool) → All (IsWholeMap program places) (kept_maps step maps (n + 1) more) → All (IsWholeMap program places) (cond kept (record { step = step; operation = n; cells = nth maps n } ∷ kept_maps step maps (n + 1) more) (kept_maps step maps (n + 1) more))
+    one_kept true rest = All-cons (IsWholeMap program places) (record { step = step; operation = n; cells = nth maps n }) (kept_maps step maps (n + 1) more) whole rest
+    one_kept false rest = rest

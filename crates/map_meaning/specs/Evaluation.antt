@@ -12,8 +12,9 @@ use Rattle.map_meaning.specs.declared.program.Operand.TheVariants.{Unused, Liter
 use Rattle.map_meaning.specs.declared.program.Operation.{Operation}
 use Rattle.map_meaning.specs.declared.program.Program.{Program}
 use Rattle.map_meaning.specs.Maps.{WholeMap, CellAt, nowhere, nth}
-use Rattle.map_meaning.specs.Rules.{Setting, outcome_of}
-use Rattle.map_meaning.specs.Overs.{Scene, places_of, whole_or_over}
+use Rattle.map_meaning.specs.Rules.{outcome_of}
+use Rattle.map_meaning.specs.Scenes.{Scene, places_of, setting_in}
+use Rattle.map_meaning.specs.Overs.{whole_or_over}
 use Rattle.map_meaning.specs.Programs.{kinds_of, operands_of}
 
 -- the maps of the operations that are done, by their numbers
@@ -35,13 +36,9 @@ operand_cell scene done (Literal kind cell) = λ place. cell
 operand_cell scene done (Input n) = cell_at (nth scene.inputs n)
 operand_cell scene done (Initial n) = cell_at (nth done.initial n)
 
--- what an operation is told beside its operands
-abbrev pub setting_of : Program → Operation → Setting
-setting_of program o = record { kinds = kinds_of program o }
-
 -- what an operation gives at a place
 abbrev pub outcome_at : Program → Scene → Done → Operation → ℕ → Outcome
-outcome_at program scene done o = outcome_of o.op (setting_of program o) (map (operand_cell scene done) (operands_of o))
+outcome_at program scene done o = outcome_of o.op (setting_in scene (kinds_of program o)) (map (operand_cell scene done) (operands_of o))
 
 -- the map of an operation, with a missing value where it is Over, and its first Over
 unfoldable pub operation_part : Program → Scene → Done → Operation → Part

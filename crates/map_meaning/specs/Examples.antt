@@ -1,7 +1,7 @@
 -- Worked examples: what the definitions give at cells, programs and statements that were worked out by hand.
-use Rattle.std.specs.Prelude.{◌≡◌, ℕ, true, false, List, [], ◌∷◌, ℤ, pos, negsuc, Option, Some, None, Result, Ok, Err, map, codes}
+use Rattle.std.specs.Prelude.{◌≡◌, ℕ, true, false, List, [], ◌∷◌, pos, negsuc, Option, Some, None, Result, Ok, Err, map, codes}
 use Rattle.cell_values.specs.declared.kind.Kind.{Kind}
-use Rattle.cell_values.specs.declared.kind.Kind.TheVariants.{Boolean, Nominal, Ordinal, Scalar, Directional, Ldd}
+use Rattle.cell_values.specs.declared.kind.Kind.TheVariants.{Boolean, Nominal, Ordinal, Scalar}
 use Rattle.cell_values.specs.declared.cell.Cell.{Cell}
 use Rattle.cell_values.specs.declared.cell.Cell.TheVariants.{Mv, Val}
 use Rattle.tile_map.specs.Cuts.{cell_at}
@@ -21,7 +21,7 @@ use Rattle.map_meaning.specs.declared.tree.Tree.TheVariants as tree
 use Rattle.map_meaning.specs.Local.{truth}
 use Rattle.map_meaning.specs.Rules.{outcome_of}
 use Rattle.map_meaning.specs.Table.{HasKinds, row_of}
-use Rattle.map_meaning.specs.Overs.{Scene}
+use Rattle.map_meaning.specs.Scenes.{Scene}
 use Rattle.map_meaning.specs.Sections.{After, section_value}
 use Rattle.map_meaning.specs.Spans.{stage_of, whole_span}
 

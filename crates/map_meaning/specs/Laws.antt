@@ -1,7 +1,7 @@
 -- What holds of all operations, statements and programs.
-use Rattle.std.specs.Prelude.{◌≡◌, ◌≢◌, ◌<◌, ℕ, ◌*◌, true, false, List, [], ◌∷◌, length, All, AllPairs, Contains, Result, Ok, Err, IfSome, slice_get, ◌⊎◌, ⊤}
+use Rattle.std.specs.Prelude.{◌≡◌, ◌≢◌, ◌<◌, ℕ, ◌+◌, ◌*◌, ℤ, pos, ◌+ℤ◌, ◌-ℤ◌, ◌*ℤ◌, ◌≤ℤ◌, ◌<ℤ◌, true, List, [], ◌∷◌, ◌++◌, length, All, AllPairs, Contains, Result, Ok, Err, IfSome, slice_get, ◌⊎◌, ⊤}
+use Rattle.text_base.specs.Results.{◌>>=◌}
 use Rattle.cell_values.specs.declared.kind.Kind.{Kind}
-use Rattle.cell_values.specs.declared.cell.Cell.{Cell}
 use Rattle.cell_values.specs.declared.cell.Cell.TheVariants.{Mv}
 use Rattle.cell_values.specs.Kinds.{IsCell}
 use Rattle.tile_map.specs.Parts.{Outcome}
@@ -20,12 +20,13 @@ use Rattle.map_meaning.specs.Evaluation.{Done, values_of}
 use Rattle.map_meaning.specs.Maps.{CellAt, IsMapOf, WholeMap}
 use Rattle.map_meaning.specs.Missing.{spreads_missing}
 use Rattle.map_meaning.specs.Onward.{ComesBefore, Onward, onward}
-use Rattle.map_meaning.specs.Overs.{Scene}
+use Rattle.map_meaning.specs.Scenes.{Scene}
 use Rattle.map_meaning.specs.Programs.{IsWellFormed, StandsBefore}
 use Rattle.map_meaning.specs.Rules.{Setting, kind_at, operand_at, outcome_of}
 use Rattle.map_meaning.specs.Sections.{After, after_statements}
 use Rattle.map_meaning.specs.Spans.{IsSpan, Knows, stage_of}
 use Rattle.map_meaning.specs.Table.{HasKinds, row_of}
+use Rattle.map_meaning.specs.Whole.{whole_above, whole_below}
 
 -- ---- the table
 
@@ -49,17 +50,36 @@ LiesIn kind (Err over) = ⊤
 abbrev pub HaveKindsAt : List Kind → List CellAt → ℕ → Type 0
 HaveKindsAt kinds operands place = (i : ℕ) → i < length kinds → IsCell (kind_at kinds i) (operand_at operands i place)
 
--- where an operation's operands have cells of their kinds, its result is a cell of its kind
+-- where an operation's operands have cells of their kinds at all places of a map, its results are cells of its kind
 abbrev pub LieInTheirKind : Type 0
 LieInTheirKind =
-    (o : Op) (setting : Setting) (kind : Kind) (operands : List CellAt) (place : ℕ) →
-    HasKinds (row_of o) setting.kinds kind → HaveKindsAt setting.kinds operands place → LiesIn kind (outcome_of o setting operands place)
+    (o : Op) (setting : Setting) (kind : Kind) (operands : List CellAt) (places place : ℕ) → HasKinds (row_of o) setting.kinds kind →
+    ((other : ℕ) → other < places → HaveKindsAt setting.kinds operands other) → place < places → LiesIn kind (outcome_of o setting operands place)
 
 -- where one of its operands is missing, a result is missing, except where the policy on missing values says otherwise
 abbrev pub SpreadMissing : Type 0
 SpreadMissing =
     (o : Op) (setting : Setting) (operands : List CellAt) (place i : ℕ) →
     spreads_missing o ≡ true → i < (row_of o).least → operand_at operands i place ≡ Mv → outcome_of o setting operands place ≡ Ok Mv
+
+-- ---- whole numbers
+
+-- the greatest whole number that is not above a scalar
+pub record IsWholeBelow (z w : ℤ) : Type 0 where
+  pub whole : (k : ℤ) × (w ≡ k *ℤ pos 1000000)
+  pub not_above : w ≤ℤ z
+  pub greatest : z <ℤ (w +ℤ pos 1000000)
+
+-- the least whole number that is not below a scalar
+pub record IsWholeAbove (z w : ℤ) : Type 0 where
+  pub whole : (k : ℤ) × (w ≡ k *ℤ pos 1000000)
+  pub not_below : z ≤ℤ w
+  pub least : (w -ℤ pos 1000000) <ℤ z
+
+-- what `rounddown` and `roundup` find are the nearest whole numbers on their side
+pub record AreNearWhole : Type 0 where
+  pub below : (z : ℤ) → IsWholeBelow z (whole_below z)
+  pub above : (z : ℤ) → IsWholeAbove z (whole_above z)
 
 -- ---- statements
 
@@ -74,6 +94,19 @@ abbrev pub ChangeTheirTargets : Type 0
 ChangeTheirTargets =
     (scene : Scene) (number : ℕ) (before after : After) (s : Statement) →
     after_statements scene number before (s ∷ []) ≡ Ok after → ChangesItsTarget before after s
+
+-- what statements give is what the later ones give where the earlier ones have been
+abbrev pub SectionsGoOn : Type 0
+SectionsGoOn =
+    (scene : Scene) (number : ℕ) (before : After) (earlier later : List Statement) →
+    after_statements scene number before (earlier ++ later)
+    ≡ after_statements scene number before earlier >>= λ after. after_statements scene (number + length earlier) after later
+
+-- what operations give is what the later ones give where the earlier ones are done
+abbrev pub OperationsGoOn : Type 0
+OperationsGoOn =
+    (program : Program) (scene : Scene) (s : Span) (done : Done) (earlier later : List Operation) →
+    values_of program scene s done (earlier ++ later) ≡ values_of program scene s done earlier >>= λ after. values_of program scene s after later
 
 -- ---- the first Over
 

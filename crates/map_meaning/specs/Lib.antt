@@ -4,6 +4,7 @@ pub mod Local
 pub mod Rules
 pub mod Table
 pub mod Maps
+pub mod Scenes
 pub mod Overs
 pub mod Trees
 pub mod Sections

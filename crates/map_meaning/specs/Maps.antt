@@ -1,10 +1,10 @@
 -- Whole maps: the cells of a map in row-major order, and a map seen by its places.
-use Rattle.std.specs.Prelude.{◌≡◌, ℕ, List, [], length, map, All, slice_index_or}
-use Rattle.std.specs.List.{range_with_len}
+use Rattle.std.specs.Prelude.{◌≡◌, ℕ, List, [], length, All, slice_index_or}
 use Rattle.cell_values.specs.declared.kind.Kind.{Kind}
 use Rattle.cell_values.specs.declared.cell.Cell.{Cell}
 use Rattle.cell_values.specs.declared.cell.Cell.TheVariants.{Mv}
 use Rattle.cell_values.specs.Kinds.{IsCell}
+use Rattle.tile_map.specs.Parts.{tabulate}
 
 -- a map: its cells in row-major order
 abbrev pub WholeMap : Type 0
@@ -20,7 +20,7 @@ nowhere place = Mv
 
 -- the map that has one cell at all of so many places
 abbrev pub everywhere : ℕ → Cell → WholeMap
-everywhere places cell = map (λ place. cell) (range_with_len 0 places)
+everywhere places cell = tabulate (λ place. cell) places
 
 -- the map with this number; none counts as an empty one
 abbrev pub nth : List WholeMap → ℕ → WholeMap

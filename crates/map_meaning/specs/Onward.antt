@@ -4,7 +4,8 @@ use Rattle.map_meaning.specs.declared.known.OverAt.{OverAt}
 use Rattle.map_meaning.specs.declared.known.Span.{Span}
 use Rattle.map_meaning.specs.declared.program.Operation.{Operation}
 use Rattle.map_meaning.specs.declared.program.Program.{Program}
-use Rattle.map_meaning.specs.Overs.{Scene, over_at}
+use Rattle.map_meaning.specs.Scenes.{Scene}
+use Rattle.map_meaning.specs.Overs.{over_at}
 use Rattle.map_meaning.specs.Evaluation.{Done, operation_part, with_map}
 
 -- what an evaluation that goes on has: the maps of all operations, and a note of each that was Over somewhere

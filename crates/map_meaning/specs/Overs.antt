@@ -1,19 +1,9 @@
--- Results that are out of range: where a map is evaluated, and how its first such place is told.
-use Rattle.std.specs.Prelude.{ℕ, ◌+◌, ◌*◌, ◌/◌, ◌%◌, List, Option, Some, None, Result, Ok, Err}
+-- Results that are out of range: how the first such place of a map is told.
+use Rattle.std.specs.Prelude.{ℕ, ◌+◌, ◌/◌, ◌%◌, Option, Some, None, Result, Ok, Err}
 use Rattle.tile_map.specs.declared.part.Part.{Part}
 use Rattle.map_meaning.specs.declared.known.OverAt.{OverAt}
 use Rattle.map_meaning.specs.Maps.{WholeMap}
-
--- where and when a model is evaluated: the size of its maps, the step, and the maps of its inputs by their numbers
-pub record Scene : Type 0 where
-  pub rows : ℕ
-  pub cols : ℕ
-  pub step : ℕ
-  pub inputs : List WholeMap
-
--- how many places a map has
-abbrev pub places_of : Scene → ℕ
-places_of scene = scene.rows * scene.cols
+use Rattle.map_meaning.specs.Scenes.{Scene}
 
 -- the five numbers of an Over: step, statement, operation, row and column
 abbrev pub over_at : Scene → ℕ → ℕ → ℕ → OverAt

@@ -9,7 +9,6 @@ use Rattle.map_meaning.specs.declared.program.Operand.TheVariants.{Unused, Liter
 use Rattle.map_meaning.specs.declared.program.Operation.{Operation}
 use Rattle.map_meaning.specs.declared.program.Role.{Role}
 use Rattle.map_meaning.specs.declared.program.Role.TheVariants.{Grid}
-use Rattle.map_meaning.specs.declared.program.InputUse.{InputUse}
 use Rattle.map_meaning.specs.declared.program.OutputUse.{OutputUse}
 use Rattle.map_meaning.specs.declared.program.Program.{Program}
 use Rattle.map_meaning.specs.Limits.{most_operations, most_statements, most_inputs, most_steps}

@@ -1,5 +1,5 @@
 -- What each operation makes of its operands: the table of values.
-use Rattle.std.specs.Prelude.{ℕ, List, slice_index_or, Result, Ok}
+use Rattle.std.specs.Prelude.{ℕ, List, slice_index_or, Ok}
 use Rattle.cell_values.specs.declared.kind.Kind.{Kind}
 use Rattle.cell_values.specs.declared.kind.Kind.TheVariants.{Boolean, Nominal, Ordinal, Scalar, Directional}
 use Rattle.cell_values.specs.declared.cell.Cell.{Cell}

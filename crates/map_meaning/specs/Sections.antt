@@ -5,7 +5,7 @@ use Rattle.text_base.specs.Results.{◌>>=◌}
 use Rattle.map_meaning.specs.declared.known.OverAt.{OverAt}
 use Rattle.map_meaning.specs.declared.tree.Statement.{Statement}
 use Rattle.map_meaning.specs.Maps.{WholeMap}
-use Rattle.map_meaning.specs.Overs.{Scene}
+use Rattle.map_meaning.specs.Scenes.{Scene}
 use Rattle.map_meaning.specs.Trees.{Environment, value_of_tree}
 
 -- the environment in which one name has this map, and each other name has what it had

@@ -1,7 +1,7 @@
 -- Spans of a program: what they read from outside themselves, and what they give.
-use Rattle.std.specs.Prelude.{◌≡◌, ◌<◌, ◌≤◌, ℕ, ◌+◌, ◌*◌, ◌==◌, List, [], ◌∷◌, length, map, Option, Some, None, Result, Ok, Err, slice_range, if◌then◌else◌, ⊤}
-use Rattle.std.specs.List.{range_with_len}
+use Rattle.std.specs.Prelude.{◌≡◌, ◌<◌, ◌≤◌, ℕ, ◌+◌, ◌*◌, ◌==◌, List, [], ◌∷◌, length, Some, None, Result, Ok, Err, slice_range, if◌then◌else◌, ⊤}
 use Rattle.text_base.specs.Limits.{most_cells}
+use Rattle.tile_map.specs.Parts.{tabulate}
 use Rattle.map_meaning.specs.declared.known.Known.{Known}
 use Rattle.map_meaning.specs.declared.known.OverAt.{OverAt}
 use Rattle.map_meaning.specs.declared.known.StageEnd.{StageEnd}
@@ -12,7 +12,7 @@ use Rattle.map_meaning.specs.declared.program.InputUse.{InputUse}
 use Rattle.map_meaning.specs.declared.program.Operation.{Operation}
 use Rattle.map_meaning.specs.declared.program.Program.{Program}
 use Rattle.map_meaning.specs.Maps.{WholeMap, IsMapOf, nth}
-use Rattle.map_meaning.specs.Overs.{Scene}
+use Rattle.map_meaning.specs.Scenes.{Scene}
 use Rattle.map_meaning.specs.Evaluation.{Done, section_maps, values_of}
 
 -- one run that a runner was asked for
@@ -66,7 +66,7 @@ kept_map (kept ∷ more) n = if kept.operation == n then kept.cells else kept_ma
 
 -- what is done before a span
 abbrev pub done_before : Span → Known → Done
-done_before (span.Initial first end) known = record { initial = map (kept_map known.initial) (range_with_len 0 first) }
+done_before (span.Initial first end) known = record { initial = tabulate (kept_map known.initial) first }
 
 -- ---- what a span gives
 
@@ -86,4 +86,4 @@ told_of program s step (Err at) = record { maps = []; over = Some at }
 unfoldable pub stage_of : Program → Span → Known → StageEnd
 stage_of program (span.Initial first end) known =
     told_of program (span.Initial first end) 0
-      (values_of program (scene_of known 0) (span.Initial first end) (done_before (span.Initial first end) known) (slice_range program.initial first end))
+    (values_of program (scene_of known 0) (span.Initial first end) (done_before (span.Initial first end) known) (slice_range program.initial first end))

@@ -11,7 +11,8 @@ use Rattle.map_meaning.specs.declared.tree.Tree.TheFolds.{fold-Tree}
 use Rattle.map_meaning.specs.declared.tree.Tree.TheOpen.{Tree-F}
 use Rattle.map_meaning.specs.Maps.{WholeMap, everywhere, nth}
 use Rattle.map_meaning.specs.Rules.{outcome_of}
-use Rattle.map_meaning.specs.Overs.{Scene, places_of, whole_or_over}
+use Rattle.map_meaning.specs.Scenes.{Scene, places_of, setting_in}
+use Rattle.map_meaning.specs.Overs.{whole_or_over}
 
 -- the map of each name
 abbrev pub Environment : Type 0
@@ -45,7 +46,7 @@ values_from_left (m ∷ more) at before =
 -- order that is Over.
 abbrev pub applied : Site → Op → List Kind → List WholeMap → ℕ → Result WholeMap OverAt
 applied at op kinds maps number =
-    whole_or_over at.scene at.statement number (part_of (outcome_of op (record { kinds = kinds }) (map cell_at maps)) (places_of at.scene))
+    whole_or_over at.scene at.statement number (part_of (outcome_of op (setting_in at.scene kinds) (map cell_at maps)) (places_of at.scene))
 
 -- an expression, from what its operands mean
 abbrev pub meaning_level : Tree-F TreeMeaning → TreeMeaning
@@ -60,8 +61,8 @@ meaning_level (Tree-F.Call kind op operands) =
       kind = kind;
       operations = operations_in operands + 1;
       value = λ at before.
-        values_from_left operands at before >>= λ maps.
-        applied at op (map (λ m. m.kind) operands) maps (before + operations_in operands + 1);
+          values_from_left operands at before >>= λ maps.
+          applied at op (map (λ m. m.kind) operands) maps (before + operations_in operands + 1);
     }
 
 -- what an expression means

@@ -5,7 +5,12 @@ use sqlite_items::Items;
 #[derive(Clone, Copy, Debug, PartialEq, Eq)]
 pub enum Span {
     /// The operations of `initial` from the number `first` up to, and without, the number `end`.
-    Initial { first: u32, end: u32 },
+    Initial {
+        /// The number of the first operation.
+        first: u32,
+        /// The number behind that of the last one.
+        end: u32,
+    },
 }
 
 /// The map of an operation at a step.

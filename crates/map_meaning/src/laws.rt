@@ -1,7 +1,7 @@
 //! What holds of every model, in the subject's words.
 
 ghost use Rattle.map_meaning.specs.Examples.{CellExamples, KindExamples, ProgramExamples, SectionExamples};
-ghost use Rattle.map_meaning.specs.Laws.{ChangeTheirTargets, GiveWholeMaps, HaveOneRow, LieInTheirKind, SpreadMissing, TellTheLeastOver};
+ghost use Rattle.map_meaning.specs.Laws.{AreNearWhole, ChangeTheirTargets, GiveWholeMaps, HaveOneRow, LieInTheirKind, OperationsGoOn, SectionsGoOn, SpreadMissing, TellTheLeastOver};
 
 /// Worked examples come out as they were worked out by hand.
 pub fn worked_examples_come_out()
@@ -24,6 +24,17 @@ pub fn results_lie_in_their_kind()
 /// A missing operand gives a missing value, except in the choices and tests that look at what is missing.
 pub fn missing_operands_spread()
     ensures { SpreadMissing }
+{}
+
+/// The whole numbers that a scalar is rounded down and up to are the nearest on their side.
+pub fn whole_numbers_are_near()
+    ensures { AreNearWhole }
+{}
+
+/// What statements, and operations, give is what the later ones of them give from where the earlier ones have come to.
+pub fn sections_go_on()
+    ensures statements { SectionsGoOn }
+    ensures operations { OperationsGoOn }
 {}
 
 /// A statement changes the map of its target alone.

@@ -3,36 +3,68 @@
 pub enum Op {
     /// The operand as it is: what a statement does whose right side has no operation.
     CopyOf,
+    /// `+`.
     Add,
+    /// `-` of two.
     Sub,
+    /// `*`.
     Mul,
+    /// `/`.
     Div,
+    /// `idiv`.
     IntDiv,
+    /// `mod`.
     IntMod,
+    /// Unary `-`.
     Neg,
+    /// `abs`.
     Abs,
+    /// `rounddown`.
     RoundDown,
+    /// `roundup`.
     RoundUp,
+    /// `roundoff`.
     RoundOff,
+    /// `min` of two.
     Min,
+    /// `max` of two.
     Max,
+    /// `==`.
     Equal,
+    /// `!=`.
     NotEqual,
+    /// `<`.
     Less,
+    /// `<=`.
     LessEqual,
+    /// `>`.
     Greater,
+    /// `>=`.
     GreaterEqual,
+    /// `and`.
     And,
+    /// `or`.
     Or,
+    /// `xor`.
     Xor,
+    /// `not`.
     Not,
+    /// `if(c then a)`.
     IfThen,
+    /// `if(c then a else b)`.
     IfElse,
+    /// `cover` of two.
     Cover,
+    /// `defined`.
     Defined,
+    /// `boolean`.
     ToBoolean,
+    /// `nominal`.
     ToNominal,
+    /// `ordinal`.
     ToOrdinal,
+    /// `scalar`.
     ToScalar,
+    /// `directional`.
     ToDirectional,
 }

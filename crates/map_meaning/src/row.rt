@@ -4,11 +4,17 @@ use cell_values::Kind;
 /// Some of the kinds.
 #[derive(Clone, Copy)]
 pub struct Kinds {
+    /// Booleans are among them.
     pub boolean: bool,
+    /// Nominal classes are.
     pub nominal: bool,
+    /// Ordinal classes are.
     pub ordinal: bool,
+    /// Scalars are.
     pub scalar: bool,
+    /// Directions are.
     pub directional: bool,
+    /// Drain directions are.
     pub ldd: bool,
 }
 
@@ -45,6 +51,7 @@ pub enum Given {
 /// Where an operation may stand.
 #[derive(Clone, Copy)]
 pub enum Stands {
+    /// In both sections, as any part of a right side.
     Anywhere,
     /// In `dynamic` alone.
     Dynamic,

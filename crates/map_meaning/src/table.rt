@@ -198,7 +198,11 @@ pub const OPERATIONS: [Row; 68] = [
     Row {
         word: *b"min                 ",
         meant: Meant::Op(Op::Min),
-        asks: [Ask::Alike(ORDERED), Ask::Alike(ORDERED), Ask::Alike(ORDERED)],
+        asks: [
+            Ask::Alike(ORDERED),
+            Ask::Alike(ORDERED),
+            Ask::Alike(ORDERED),
+        ],
         least: 2,
         most: MANY_OPERANDS,
         gives: Given::Common,
@@ -207,7 +211,11 @@ pub const OPERATIONS: [Row; 68] = [
     Row {
         word: *b"max                 ",
         meant: Meant::Op(Op::Max),
-        asks: [Ask::Alike(ORDERED), Ask::Alike(ORDERED), Ask::Alike(ORDERED)],
+        asks: [
+            Ask::Alike(ORDERED),
+            Ask::Alike(ORDERED),
+            Ask::Alike(ORDERED),
+        ],
         least: 2,
         most: MANY_OPERANDS,
         gives: Given::Common,
@@ -234,7 +242,11 @@ pub const OPERATIONS: [Row; 68] = [
     Row {
         word: *b"<                   ",
         meant: Meant::Op(Op::Less),
-        asks: [Ask::Alike(ORDERED), Ask::Alike(ORDERED), Ask::Alike(ORDERED)],
+        asks: [
+            Ask::Alike(ORDERED),
+            Ask::Alike(ORDERED),
+            Ask::Alike(ORDERED),
+        ],
         least: 2,
         most: 2,
         gives: Given::Always(Kind::Boolean),
@@ -243,7 +255,11 @@ pub const OPERATIONS: [Row; 68] = [
     Row {
         word: *b"<=                  ",
         meant: Meant::Op(Op::LessEqual),
-        asks: [Ask::Alike(ORDERED), Ask::Alike(ORDERED), Ask::Alike(ORDERED)],
+        asks: [
+            Ask::Alike(ORDERED),
+            Ask::Alike(ORDERED),
+            Ask::Alike(ORDERED),
+        ],
         least: 2,
         most: 2,
         gives: Given::Always(Kind::Boolean),
@@ -252,7 +268,11 @@ pub const OPERATIONS: [Row; 68] = [
     Row {
         word: *b">                   ",
         meant: Meant::Op(Op::Greater),
-        asks: [Ask::Alike(ORDERED), Ask::Alike(ORDERED), Ask::Alike(ORDERED)],
+        asks: [
+            Ask::Alike(ORDERED),
+            Ask::Alike(ORDERED),
+            Ask::Alike(ORDERED),
+        ],
         least: 2,
         most: 2,
         gives: Given::Always(Kind::Boolean),
@@ -261,7 +281,11 @@ pub const OPERATIONS: [Row; 68] = [
     Row {
         word: *b">=                  ",
         meant: Meant::Op(Op::GreaterEqual),
-        asks: [Ask::Alike(ORDERED), Ask::Alike(ORDERED), Ask::Alike(ORDERED)],
+        asks: [
+            Ask::Alike(ORDERED),
+            Ask::Alike(ORDERED),
+            Ask::Alike(ORDERED),
+        ],
         least: 2,
         most: 2,
         gives: Given::Always(Kind::Boolean),
@@ -423,7 +447,11 @@ pub const OPERATIONS: [Row; 68] = [
     Row {
         word: *b"lookupdirectional   ",
         meant: Meant::Unbuilt,
-        asks: [Ask::Table(Kind::Directional), Ask::One(MAPS), Ask::One(MAPS)],
+        asks: [
+            Ask::Table(Kind::Directional),
+            Ask::One(MAPS),
+            Ask::One(MAPS),
+        ],
         least: 2,
         most: 5,
         gives: Given::Always(Kind::Directional),
@@ -432,7 +460,11 @@ pub const OPERATIONS: [Row; 68] = [
     Row {
         word: *b"timeinputboolean    ",
         meant: Meant::Unbuilt,
-        asks: [Ask::Series(Kind::Boolean), Ask::One(CLASSES), Ask::One(CLASSES)],
+        asks: [
+            Ask::Series(Kind::Boolean),
+            Ask::One(CLASSES),
+            Ask::One(CLASSES),
+        ],
         least: 2,
         most: 2,
         gives: Given::Always(Kind::Boolean),
@@ -441,7 +473,11 @@ pub const OPERATIONS: [Row; 68] = [
     Row {
         word: *b"timeinputnominal    ",
         meant: Meant::Unbuilt,
-        asks: [Ask::Series(Kind::Nominal), Ask::One(CLASSES), Ask::One(CLASSES)],
+        asks: [
+            Ask::Series(Kind::Nominal),
+            Ask::One(CLASSES),
+            Ask::One(CLASSES),
+        ],
         least: 2,
         most: 2,
         gives: Given::Always(Kind::Nominal),
@@ -450,7 +486,11 @@ pub const OPERATIONS: [Row; 68] = [
     Row {
         word: *b"timeinputordinal    ",
         meant: Meant::Unbuilt,
-        asks: [Ask::Series(Kind::Ordinal), Ask::One(CLASSES), Ask::One(CLASSES)],
+        asks: [
+            Ask::Series(Kind::Ordinal),
+            Ask::One(CLASSES),
+            Ask::One(CLASSES),
+        ],
         least: 2,
         most: 2,
         gives: Given::Always(Kind::Ordinal),
@@ -459,7 +499,11 @@ pub const OPERATIONS: [Row; 68] = [
     Row {
         word: *b"timeinputscalar     ",
         meant: Meant::Unbuilt,
-        asks: [Ask::Series(Kind::Scalar), Ask::One(CLASSES), Ask::One(CLASSES)],
+        asks: [
+            Ask::Series(Kind::Scalar),
+            Ask::One(CLASSES),
+            Ask::One(CLASSES),
+        ],
         least: 2,
         most: 2,
         gives: Given::Always(Kind::Scalar),
@@ -468,7 +512,11 @@ pub const OPERATIONS: [Row; 68] = [
     Row {
         word: *b"timeinputdirectional",
         meant: Meant::Unbuilt,
-        asks: [Ask::Series(Kind::Directional), Ask::One(CLASSES), Ask::One(CLASSES)],
+        asks: [
+            Ask::Series(Kind::Directional),
+            Ask::One(CLASSES),
+            Ask::One(CLASSES),
+        ],
         least: 2,
         most: 2,
         gives: Given::Always(Kind::Directional),

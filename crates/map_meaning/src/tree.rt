@@ -6,15 +6,33 @@ use sqlite_items::Items;
 #[derive(Drop)]
 pub enum Tree {
     /// A number.
-    Number { kind: Kind, cell: Cell },
+    Number {
+        /// The kind that it takes.
+        kind: Kind,
+        /// Its value.
+        cell: Cell,
+    },
     /// The grid of the input with this number, which counts the program's inputs from 0.
-    Input { kind: Kind, input: u32 },
+    Input {
+        /// The kind of the grid.
+        kind: Kind,
+        /// The number.
+        input: u32,
+    },
     /// The map that a name has where the expression stands.
-    Name { kind: Kind, name: Word },
+    Name {
+        /// The kind of the map.
+        kind: Kind,
+        /// The name.
+        name: Word,
+    },
     /// An operation. One that is written with more operands than it takes stands as nested calls, from the left.
     Call {
+        /// The kind of the result.
         kind: Kind,
+        /// What is computed.
         op: Op,
+        /// The operands, from the left.
         operands: Items<Tree>,
     },
 }

@@ -1,4 +1,4 @@
-use Rattle.std.proofs.Common.{◌≡◌, ℕ, zero, suc, ◌+◌, ◌<◌, ◌≤◌, List, [], ◌∷◌, ◌++◌, length, get_or, refl, sym, ap, subst, ◌∙◌, Ok, Err, Result, arith, append_assoc, ◌⊎◌, inl, inr}
+use Rattle.std.proofs.Common.{◌≡◌, ℕ, suc, List, [], ◌∷◌, ◌++◌, get_or, refl, Ok, Err, Result, arith, ◌⊎◌, inl, inr}
 use Rattle.std.specs.Prelude.{All, AllPairs, Option, None, Some}
 use Rattle.std.proofs.lemmas.List.Elements.{All-cons, All-nil}
 use Rattle.text_base.specs.Results.{◌>>=◌}
@@ -6,11 +6,12 @@ use Rattle.map_meaning.specs.declared.known.OverAt.{OverAt}
 use Rattle.map_meaning.specs.declared.known.Span.{Span}
 use Rattle.map_meaning.specs.declared.program.Operation.{Operation}
 use Rattle.map_meaning.specs.declared.program.Program.{Program}
-use Rattle.map_meaning.specs.Evaluation.{Done, operation_part, value_of, values_of, with_map}
-use Rattle.map_meaning.specs.Laws.{IsLeastOf, TellsLeast}
+use Rattle.map_meaning.specs.Evaluation.{Done, operation_part, values_of, with_map}
+use Rattle.map_meaning.specs.Laws.{TellsLeast}
 use Rattle.map_meaning.specs.Maps.{WholeMap}
-use Rattle.map_meaning.specs.Onward.{ComesBefore, Onward, note_of, onward, with_notes}
-use Rattle.map_meaning.specs.Overs.{Scene, map_or_over, over_at}
+use Rattle.map_meaning.specs.Onward.{ComesBefore, note_of, onward, with_notes}
+use Rattle.map_meaning.specs.Scenes.{Scene}
+use Rattle.map_meaning.specs.Overs.{map_or_over, over_at}
 use Rattle.map_meaning.specs.Programs.{StandsBefore}
 use Rattle.map_meaning.proofs.laws.first_over_is_the_least_noted.Goals as goal
 
@@ -58,9 +59,9 @@ told_behind : (program : Program) (scene : Scene) (s : Span) (done : Done) (o : 
     TellsLeast (map_or_over scene o.statement o.number over m >>= λ m. values_of program scene s (with_map s done m) more) (with_notes (note_of scene o over) (onward program scene s (with_map s done m) more))
 told_behind program scene s done o more None m pairs behind = same_notes (values_of program scene s (with_map s done m) more) behind
   where
-  same_notes : (r : Result Done OverAt) → TellsLeast r (onward program scene s (with_map s done m) more) → TellsLeast r (with_notes [] (onward program scene s (with_map s done m) more))
-  same_notes (Ok d) h = h
-  same_notes (Err at) h = h
+    same_notes : (r : Result Done OverAt) → TellsLeast r (onward program scene s (with_map s done m) more) → TellsLeast r (with_notes [] (onward program scene s (with_map s done m) more))
+    same_notes (Ok d) h = h
+    same_notes (Err at) h = h
 told_behind program scene s done o more (Some place) m pairs behind =
     let at : OverAt = over_at scene o.statement o.number place in
     let rest : List OverAt = (onward program scene s (with_map s done m) more).notes in

@@ -3,11 +3,10 @@ use Rattle.std.specs.Prelude.{All}
 use Rattle.std.proofs.lemmas.List.Elements.{All-cons, All-nil}
 use Rattle.map_meaning.specs.declared.op.Op.{Op}
 use Rattle.map_meaning.specs.declared.op.Op.TheVariants as op
-use Rattle.map_meaning.specs.declared.row.Meant.{Meant}
 use Rattle.map_meaning.specs.declared.row.Meant.TheVariants as meant
 use Rattle.map_meaning.specs.declared.row.Row.{Row}
 use Rattle.map_meaning.specs.declared.table.TheConstants.{OPERATIONS}
-use Rattle.map_meaning.specs.Laws.{HaveOneRow, IsItsRow}
+use Rattle.map_meaning.specs.Laws.{IsItsRow}
 use Rattle.map_meaning.specs.Table.{row_of}
 use Rattle.map_meaning.proofs.laws.operations_have_one_row.Goals as goal
 
@@ -60,8 +59,8 @@ built x row is means o h = one_operation x o (sym means ∙ h) ∙ is
 unbuilt : (row : Row) → row.meant ≡ meant.Unbuilt → IsItsRow row
 unbuilt row means o h = absurd (different (sym means ∙ h))
   where
-  different : meant.Unbuilt ≡ meant.Op o → ⊥
-  different e = cc
+    different : meant.Unbuilt ≡ meant.Op o → ⊥
+    different e = cc
 
 -- a fact of each row of a list, one by one
 abbrev Each : (Row → Type 0) → List Row → Type 0
@@ -76,74 +75,209 @@ pub returns : goal.returns
 unfolding row_of
 returns c = record {
   row = its_meaning;
-  only = from_each IsItsRow OPERATIONS (
-    (built op.Add _ refl refl,
-    (built op.Sub _ refl refl,
-    (built op.Mul _ refl refl,
-    (built op.Div _ refl refl,
-    (built op.IntDiv _ refl refl,
-    (built op.IntMod _ refl refl,
-    (built op.Neg _ refl refl,
-    (built op.Abs _ refl refl,
-    (built op.RoundDown _ refl refl,
-    (built op.RoundUp _ refl refl,
-    (built op.RoundOff _ refl refl,
-    (built op.Min _ refl refl,
-    (built op.Max _ refl refl,
-    (built op.Equal _ refl refl,
-    (built op.NotEqual _ refl refl,
-    (built op.Less _ refl refl,
-    (built op.LessEqual _ refl refl,
-    (built op.Greater _ refl refl,
-    (built op.GreaterEqual _ refl refl,
-    (built op.And _ refl refl,
-    (built op.Or _ refl refl,
-    (built op.Xor _ refl refl,
-    (built op.Not _ refl refl,
-    (built op.IfThen _ refl refl,
-    (built op.IfElse _ refl refl,
-    (built op.Cover _ refl refl,
-    (built op.Defined _ refl refl,
-    (built op.ToBoolean _ refl refl,
-    (built op.ToNominal _ refl refl,
-    (built op.ToOrdinal _ refl refl,
-    (built op.ToScalar _ refl refl,
-    (built op.ToDirectional _ refl refl,
-    (unbuilt _ refl,
-    (unbuilt _ refl,
-    (unbuilt _ refl,
-    (unbuilt _ refl,
-    (unbuilt _ refl,
-    (unbuilt _ refl,
-    (unbuilt _ refl,
-    (unbuilt _ refl,
-    (unbuilt _ refl,
-    (unbuilt _ refl,
-    (unbuilt _ refl,
-    (unbuilt _ refl,
-    (unbuilt _ refl,
-    (unbuilt _ refl,
-    (unbuilt _ refl,
-    (unbuilt _ refl,
-    (unbuilt _ refl,
-    (unbuilt _ refl,
-    (unbuilt _ refl,
-    (unbuilt _ refl,
-    (unbuilt _ refl,
-    (unbuilt _ refl,
-    (unbuilt _ refl,
-    (unbuilt _ refl,
-    (unbuilt _ refl,
-    (unbuilt _ refl,
-    (unbuilt _ refl,
-    (unbuilt _ refl,
-    (unbuilt _ refl,
-    (unbuilt _ refl,
-    (unbuilt _ refl,
-    (unbuilt _ refl,
-    (unbuilt _ refl,
-    (unbuilt _ refl,
-    (unbuilt _ refl,
-    (unbuilt _ refl,
-    tt)))))))))))))))))))))))))))))))))))))))))))))))))))))))))))))))))))));
+  only = from_each IsItsRow OPERATIONS ((
+    built op.Add _ refl refl,
+    (
+      built op.Sub _ refl refl,
+      (
+        built op.Mul _ refl refl,
+        (
+          built op.Div _ refl refl,
+          (
+            built op.IntDiv _ refl refl,
+            (
+              built op.IntMod _ refl refl,
+              (
+                built op.Neg _ refl refl,
+                (
+                  built op.Abs _ refl refl,
+                  (
+                    built op.RoundDown _ refl refl,
+                    (
+                      built op.RoundUp _ refl refl,
+                      (
+                        built op.RoundOff _ refl refl,
+                        (
+                          built op.Min _ refl refl,
+                          (
+                            built op.Max _ refl refl,
+                            (
+                              built op.Equal _ refl refl,
+                              (
+                                built op.NotEqual _ refl refl,
+                                (
+                                  built op.Less _ refl refl,
+                                  (
+                                    built op.LessEqual _ refl refl,
+                                    (
+                                      built op.Greater _ refl refl,
+                                      (
+                                        built op.GreaterEqual _ refl refl,
+                                        (
+                                          built op.And _ refl refl,
+                                          (
+                                            built op.Or _ refl refl,
+                                            (
+                                              built op.Xor _ refl refl,
+                                              (
+                                                built op.Not _ refl refl,
+                                                (
+                                                  built op.IfThen _ refl refl,
+                                                  (
+                                                    built op.IfElse _ refl refl,
+                                                    (
+                                                      built op.Cover _ refl refl,
+                                                      (
+                                                        built op.Defined _ refl refl,
+                                                        (
+                                                          built op.ToBoolean _ refl refl,
+                                                          (
+                                                            built op.ToNominal _ refl refl,
+                                                            (
+                                                              built op.ToOrdinal _ refl refl,
+                                                              (
+                                                                built op.ToScalar _ refl refl,
+                                                                (
+                                                                  built op.ToDirectional _ refl refl,
+                                                                  (
+                                                                    unbuilt _ refl,
+                                                                    (
+                                                                      unbuilt _ refl,
+                                                                      (
+                                                                        unbuilt _ refl,
+                                                                        (
+                                                                          unbuilt _ refl,
+                                                                          (
+                                                                            unbuilt _ refl,
+                                                                            (
+                                                                              unbuilt _ refl,
+                                                                              (
+                                                                                unbuilt _ refl,
+                                                                                (
+                                                                                  unbuilt _ refl,
+                                                                                  (
+                                                                                    unbuilt _ refl,
+                                                                                    (
+                                                                                      unbuilt _ refl,
+                                                                                      (
+                                                                                        unbuilt _ refl,
+                                                                                        (
+                                                                                          unbuilt _ refl,
+                                                                                          (
+                                                                                            unbuilt _ refl,
+                                                                                            (
+                                                                                              unbuilt _ refl,
+                                                                                              (
+                                                                                                unbuilt _ refl,
+                                                                                                (
+                                                                                                  unbuilt _ refl,
+                                                                                                  (
+                                                                                                    unbuilt _ refl,
+                                                                                                    (
+                                                                                                      unbuilt _ refl,
+                                                                                                      (
+                                                                                                        unbuilt _ refl,
+                                                                                                        (
+                                                                                                          unbuilt _ refl,
+                                                                                                          (
+                                                                                                            unbuilt _ refl,
+                                                                                                            (
+                                                                                                              unbuilt _ refl,
+                                                                                                              (
+                                                                                                                unbuilt _ refl,
+                                                                                                                (
+                                                                                                                  unbuilt _ refl,
+                                                                                                                  (
+                                                                                                                    unbuilt _ refl,
+                                                                                                                    (
+                                                                                                                      unbuilt _ refl,
+                                                                                                                      (
+                                                                                                                        unbuilt _ refl,
+                                                                                                                        (
+                                                                                                                          unbuilt _ refl,
+                                                                                                                          (
+                                                                                                                            unbuilt _ refl,
+                                                                                                                            (
+                                                                                                                              unbuilt _ refl,
+                                                                                                                              (
+                                                                                                                                unbuilt _ refl,
+                                                                                                                                (
+                                                                                                                                  unbuilt _ refl,
+                                                                                                                                  (
+                                                                                                                                    unbuilt _ refl,
+                                                                                                                                    (
+                                                                                                                                      unbuilt _ refl,
+                                                                                                                                      (
+                                                                                                                                        unbuilt _ refl,
+                                                                                                                                        (
+                                                                                                                                          unbuilt _ refl,
+                                                                                                                                          tt,
+                                                                                                                                        ),
+                                                                                                                                      ),
+                                                                                                                                    ),
+                                                                                                                                  ),
+                                                                                                                                ),
+                                                                                                                              ),
+                                                                                                                            ),
+                                                                                                                          ),
+                                                                                                                        ),
+                                                                                                                      ),
+                                                                                                                    ),
+                                                                                                                  ),
+                                                                                                                ),
+                                                                                                              ),
+                                                                                                            ),
+                                                                                                          ),
+                                                                                                        ),
+                                                                                                      ),
+                                                                                                    ),
+                                                                                                  ),
+                                                                                                ),
+                                                                                              ),
+                                                                                            ),
+                                                                                          ),
+                                                                                        ),
+                                                                                      ),
+                                                                                    ),
+                                                                                  ),
+                                                                                ),
+                                                                              ),
+                                                                            ),
+                                                                          ),
+                                                                        ),
+                                                                      ),
+                                                                    ),
+                                                                  ),
+                                                                ),
+                                                              ),
+                                                            ),
+                                                          ),
+                                                        ),
+                                                      ),
+                                                    ),
+                                                  ),
+                                                ),
+                                              ),
+                                            ),
+                                          ),
+                                        ),
+                                      ),
+                                    ),
+                                  ),
+                                ),
+                              ),
+                            ),
+                          ),
+                        ),
+                      ),
+                    ),
+                  ),
+                ),
+              ),
+            ),
+          ),
+        ),
+      ),
+    ),
+  ));
 }

@@ -1,5 +1,5 @@
-use Rattle.map_meaning.proofs.InKinds.{lies}
+use Rattle.map_meaning.proofs.InKinds.{in_kind}
 use Rattle.map_meaning.proofs.laws.results_lie_in_their_kind.Goals as goal
 
 pub returns : goal.returns
-returns c = lies
+returns c = in_kind

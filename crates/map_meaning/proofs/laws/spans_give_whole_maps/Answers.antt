@@ -1,10 +1,9 @@
-use Rattle.std.proofs.Common.{◌≡◌, ℕ, zero, suc, ◌+◌, ◌*◌, ◌-◌, ◌<◌, ◌≤◌, List, [], ◌∷◌, length, take, drop, refl, sym, ap, subst, ◌∙◌, Ok, Err, Result, arith}
-use Rattle.std.specs.Prelude.{All, None, Some, slice_get, slice_range}
+use Rattle.std.proofs.Common.{◌≡◌, ℕ, suc, ◌+◌, ◌*◌, ◌-◌, List, [], ◌∷◌, length, take, refl, sym, ap, subst, ◌∙◌, Ok, Err, Result, arith}
+use Rattle.std.specs.Prelude.{All, Some, slice_get, slice_range}
 use Rattle.std.proofs.lemmas.List.Elements.{All-nil}
 use Rattle.std.proofs.Math.Seq.{take-length}
 use Rattle.map_meaning.specs.declared.known.Known.{Known}
 use Rattle.map_meaning.specs.declared.known.OverAt.{OverAt}
-use Rattle.map_meaning.specs.declared.known.Span.{Span}
 use Rattle.map_meaning.specs.declared.known.Span.TheVariants as span
 use Rattle.map_meaning.specs.declared.program.Operation.{Operation}
 use Rattle.map_meaning.specs.declared.program.Program.{Program}
@@ -12,7 +11,7 @@ use Rattle.map_meaning.specs.Evaluation.{Done, values_of}
 use Rattle.map_meaning.specs.Laws.{IsWholeMap}
 use Rattle.map_meaning.specs.Programs.{IsWellFormed}
 use Rattle.map_meaning.specs.declared.known.StepMap.{StepMap}
-use Rattle.map_meaning.specs.Spans.{AreInputMaps, IsSpan, Knows, kept_maps, scene_of, stage_of, told_of}
+use Rattle.map_meaning.specs.Spans.{AreInputMaps, kept_maps, scene_of, stage_of, told_of}
 use Rattle.map_meaning.proofs.WholeMaps.{AreDone, AreFrom, kept_whole, none_done, values_done}
 use Rattle.map_meaning.proofs.laws.spans_give_whole_maps.Goals as goal
 
@@ -21,10 +20,11 @@ from_list : (program : Program) (n : ℕ) (operations : List Operation) → ((k 
 from_list program n [] at = tt
 from_list program n (o ∷ more) at = (first, from_list program (n + 1) more others)
   where
-  first : slice_get program.initial n ≡ Some o
-  first = let same : n + 0 ≡ n = omega arith in subst (λ k. slice_get program.initial k ≡ Some o) same (at 0)
-  others : (k : ℕ) → slice_get program.initial (n + 1 + k) ≡ slice_get more k
-  others k = let same : n + suc k ≡ n + 1 + k = omega arith in subst (λ j. slice_get program.initial j ≡ slice_get more k) same (at (suc k))
+    first : slice_get program.initial n ≡ Some o
+    first = let same : n + 0 ≡ n = omega arith in subst (λ k. slice_get program.initial k ≡ Some o) same (at 0)
+
+    others : (k : ℕ) → slice_get program.initial (n + 1 + k) ≡ slice_get more k
+    others k = let same : n + suc k ≡ n + 1 + k = omega arith in subst (λ j. slice_get program.initial j ≡ slice_get more k) same (at (suc k))
 
 -- what is told of some operations
 abbrev told_maps : List Operation → Result Done OverAt → List StepMap
@@ -52,11 +52,11 @@ stage_whole program known formed inputs =
     let end = length program.initial in
     let P : List Operation → Type 0 = λ ops. All (IsWholeMap program (known.rows * known.cols)) (told_maps ops (values_of program (scene_of known 0) (span.Initial 0 end) (record { initial = [] }) ops)) in
     same_maps (values_of program (scene_of known 0) (span.Initial 0 end) (record { initial = [] }) (slice_range program.initial 0 end))
-      (subst P (sym (whole_range program.initial)) (told_whole program known end (values_of program (scene_of known 0) (span.Initial 0 end) (record { initial = [] }) program.initial) formed inputs refl))
+    (subst P (sym (whole_range program.initial)) (told_whole program known end (values_of program (scene_of known 0) (span.Initial 0 end) (record { initial = [] }) program.initial) formed inputs refl))
   where
-  same_maps : (r : Result Done OverAt) → All (IsWholeMap program (known.rows * known.cols)) (told_maps (slice_range program.initial 0 (length program.initial)) r) → All (IsWholeMap program (known.rows * known.cols)) (told_of program (span.Initial 0 (length program.initial)) 0 r).maps
-  same_maps (Ok done) all = all
-  same_maps (Err at) all = all
+    same_maps : (r : Result Done OverAt) → All (IsWholeMap program (known.rows * known.cols)) (told_maps (slice_range program.initial 0 (length program.initial)) r) → All (IsWholeMap program (known.rows * known.cols)) (told_of program (span.Initial 0 (length program.initial)) 0 r).maps
+    same_maps (Ok done) all = all
+    same_maps (Err at) all = all
 
 pub returns : goal.returns
 returns c program (span.Initial first end) known block formed is knows =

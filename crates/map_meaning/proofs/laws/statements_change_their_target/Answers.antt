@@ -1,4 +1,4 @@
-use Rattle.std.proofs.Common.{◌≡◌, ℕ, ◌+◌, List, [], ◌∷◌, Bool, true, false, cond, refl, sym, ap, subst, ◌∙◌, Ok, Err, Result}
+use Rattle.std.proofs.Common.{◌≡◌, ℕ, List, Bool, true, false, cond, refl, ap, subst, Ok, Err, Result}
 use Rattle.std.specs.Str.{bytes_eq}
 use Rattle.std.proofs.lemmas.Slice.Eq.{bytes_eq-Decides}
 use Rattle.text_base.specs.Results.{◌>>=◌}
@@ -6,8 +6,7 @@ use Rattle.map_meaning.specs.declared.known.OverAt.{OverAt}
 use Rattle.map_meaning.specs.declared.tree.Statement.{Statement}
 use Rattle.map_meaning.specs.Laws.{ChangesItsTarget}
 use Rattle.map_meaning.specs.Maps.{WholeMap}
-use Rattle.map_meaning.specs.Overs.{Scene}
-use Rattle.map_meaning.specs.Sections.{After, after_statements, assigned}
+use Rattle.map_meaning.specs.Sections.{After, assigned}
 use Rattle.map_meaning.specs.Trees.{value_of_tree}
 use Rattle.map_meaning.proofs.laws.statements_change_their_target.Goals as goal
 
