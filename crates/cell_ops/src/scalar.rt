@@ -2,8 +2,8 @@
 
 ghost use Rattle.std.specs.Prelude.{◌≡◌, ◌≤◌, ◌^◌, ℤ, pos, neg_ℤ, unsigned_abs, Ok};
 ghost use Rattle.cell_values.specs.declared.kind.Kind.TheVariants.{Scalar};
-ghost use Rattle.cell_values.specs.Arithmetic.{difference_of, product_of, quotient_of, remainder_of, sum_of, whole_quotient_of};
-ghost use Rattle.cell_values.specs.Kinds.{cell_of};
+ghost use Rattle.cell_values.specs.Arithmetic.{scalar_difference, scalar_product, scalar_quotient, scalar_remainder, scalar_sum, scalar_whole_quotient};
+ghost use Rattle.cell_values.specs.Kinds.{cell_of_number};
 ghost use Rattle.map_meaning.specs.Missing.{at_cell};
 ghost use Rattle.map_meaning.specs.Whole.{whole_above, whole_below, whole_nearest};
 
@@ -32,7 +32,7 @@ pub struct WholeQuotient;
 pub struct Remainder;
 
 impl CellRule for Sum {
-    ghost rule = { λ _ a b _. sum_of a b };
+    ghost rule = { λ _ a b _. scalar_sum a b };
 
     fn at(&self, a: Cell, b: Cell, _c: Cell) -> Result<Cell, Over> {
         add(a, b)
@@ -40,7 +40,7 @@ impl CellRule for Sum {
 }
 
 impl CellRule for Difference {
-    ghost rule = { λ _ a b _. difference_of a b };
+    ghost rule = { λ _ a b _. scalar_difference a b };
 
     fn at(&self, a: Cell, b: Cell, _c: Cell) -> Result<Cell, Over> {
         sub(a, b)
@@ -48,7 +48,7 @@ impl CellRule for Difference {
 }
 
 impl CellRule for Product {
-    ghost rule = { λ _ a b _. product_of a b };
+    ghost rule = { λ _ a b _. scalar_product a b };
 
     fn at(&self, a: Cell, b: Cell, _c: Cell) -> Result<Cell, Over> {
         mul(a, b)
@@ -56,7 +56,7 @@ impl CellRule for Product {
 }
 
 impl CellRule for Quotient {
-    ghost rule = { λ _ a b _. quotient_of a b };
+    ghost rule = { λ _ a b _. scalar_quotient a b };
 
     fn at(&self, a: Cell, b: Cell, _c: Cell) -> Result<Cell, Over> {
         div(a, b)
@@ -64,7 +64,7 @@ impl CellRule for Quotient {
 }
 
 impl CellRule for WholeQuotient {
-    ghost rule = { λ _ a b _. whole_quotient_of a b };
+    ghost rule = { λ _ a b _. scalar_whole_quotient a b };
 
     fn at(&self, a: Cell, b: Cell, _c: Cell) -> Result<Cell, Over> {
         int_div(a, b)
@@ -72,7 +72,7 @@ impl CellRule for WholeQuotient {
 }
 
 impl CellRule for Remainder {
-    ghost rule = { λ _ a b _. Ok (remainder_of a b) };
+    ghost rule = { λ _ a b _. Ok (scalar_remainder a b) };
 
     fn at(&self, a: Cell, b: Cell, _c: Cell) -> Result<Cell, Over> {
         Ok(int_mod(a, b))
@@ -96,7 +96,7 @@ pub struct OnScalar<F> {
 }
 
 impl<F: ScalarFunction> CellRule for OnScalar<F> {
-    ghost rule = { λ s a _ _. at_cell (λ z. cell_of Scalar (F.value s.function z)) a };
+    ghost rule = { λ s a _ _. at_cell (λ z. cell_of_number Scalar (F.value s.function z)) a };
 
     fn at(&self, a: Cell, _b: Cell, _c: Cell) -> Result<Cell, Over> {
         match a {

@@ -9,8 +9,8 @@ use Rattle.cell_values.specs.declared.kind.Kind.{Kind}
 use Rattle.cell_values.specs.declared.kind.Kind.TheVariants.{Boolean, Nominal, Ordinal, Scalar, Directional}
 use Rattle.cell_values.specs.declared.cell.Cell.{Cell}
 use Rattle.cell_values.specs.declared.cell.Cell.TheVariants.{Mv, Val}
-use Rattle.cell_values.specs.Kinds.{IsCell, IsValue, cell_of, is_value}
-use Rattle.cell_values.specs.Arithmetic.{at_cells, divided_cells, remainder_of}
+use Rattle.cell_values.specs.Kinds.{IsCell, IsValue, cell_of_number, is_value}
+use Rattle.cell_values.specs.Arithmetic.{at_cells, divided_cells, scalar_remainder}
 use Rattle.cell_values.specs.Rounding.{cut_quotient, nearest, nearest_quotient}
 use Rattle.map_meaning.specs.Whole.{whole_above, whole_below, whole_nearest}
 use Rattle.cell_values.specs.Conversion.{conversion_of, converted}
@@ -33,7 +33,7 @@ tested : (kind : Kind) (z : ℤ) (b : Bool) → is_value kind z ≡ b → LiesIn
 tested kind z true h = value-from_test kind z h
 tested kind z false h = tt
 
-of_number : (kind : Kind) (z : ℤ) → LiesIn kind (cell_of kind z)
+of_number : (kind : Kind) (z : ℤ) → LiesIn kind (cell_of_number kind z)
 of_number kind z = tested kind z (is_value kind z) refl
 
 -- an operation on one number
@@ -62,14 +62,14 @@ of_division : (kind : Kind) (f : ℤ → ℤ → Outcome) → ((a b : ℤ) → L
 of_division kind f h = of_cells kind (λ a b. cond (int_eq b (pos 0)) (Ok Mv) (f a b)) (λ a b. of_choice kind (Ok Mv) (f a b) (int_eq b (pos 0)) tt (h a b))
 
 -- operations on numbers whose results are tested as scalars
-of_one : (f : ℤ → ℤ) (x : Cell) → LiesIn Scalar (at_cell (λ a. cell_of Scalar (f a)) x)
-of_one f = of_cell Scalar (λ a. cell_of Scalar (f a)) (λ a. of_number Scalar (f a))
+of_one : (f : ℤ → ℤ) (x : Cell) → LiesIn Scalar (at_cell (λ a. cell_of_number Scalar (f a)) x)
+of_one f = of_cell Scalar (λ a. cell_of_number Scalar (f a)) (λ a. of_number Scalar (f a))
 
-of_numbers : (f : ℤ → ℤ → ℤ) (x y : Cell) → LiesIn Scalar (at_cells (λ a b. cell_of Scalar (f a b)) x y)
-of_numbers f = of_cells Scalar (λ a b. cell_of Scalar (f a b)) (λ a b. of_number Scalar (f a b))
+of_numbers : (f : ℤ → ℤ → ℤ) (x y : Cell) → LiesIn Scalar (at_cells (λ a b. cell_of_number Scalar (f a b)) x y)
+of_numbers f = of_cells Scalar (λ a b. cell_of_number Scalar (f a b)) (λ a b. of_number Scalar (f a b))
 
-of_divided : (f : ℤ → ℤ → ℤ) (x y : Cell) → LiesIn Scalar (divided_cells (λ a b. cell_of Scalar (f a b)) x y)
-of_divided f = of_division Scalar (λ a b. cell_of Scalar (f a b)) (λ a b. of_number Scalar (f a b))
+of_divided : (f : ℤ → ℤ → ℤ) (x y : Cell) → LiesIn Scalar (divided_cells (λ a b. cell_of_number Scalar (f a b)) x y)
+of_divided f = of_division Scalar (λ a b. cell_of_number Scalar (f a b)) (λ a b. of_number Scalar (f a b))
 
 -- a boolean
 of_truth : (b : Bool) → IsCell Boolean (truth b)
@@ -135,7 +135,7 @@ no_larger : (a z : ℤ) → IsValue Scalar a → unsigned_abs z ≤ unsigned_abs
 no_larger a z h size = record { least = omega (arith, ints, size, h.least, h.greatest); greatest = omega (arith, ints, size, h.least, h.greatest) }
 
 -- what is left of a scalar is one
-of_left : (a b : Cell) → IsCell Scalar a → IsCell Scalar (remainder_of a b)
+of_left : (a b : Cell) → IsCell Scalar a → IsCell Scalar (scalar_remainder a b)
 of_left Mv b ha = tt
 of_left (Val a) Mv ha = tt
 of_left (Val a) (Val b) ha = of_cell_choice Scalar Mv (Val (a -ℤ (b *ℤ int_div a b))) (int_eq b (pos 0)) tt (subst (IsValue Scalar) (left_is a b) (no_larger a (int_rem a b) ha (left_size a b)))
@@ -175,7 +175,7 @@ lies op.IntDiv setting kind operands place h cells =
     as_kind Scalar kind _ h.gives (of_divided (λ a b. cut_quotient a b *ℤ pos 1000000) (operand_at operands 0 place) (operand_at operands 1 place))
 lies op.IntMod setting kind operands place h cells =
     let scalar : Scalar ≡ kind_at setting.kinds 0 = same_kind Scalar (kind_at setting.kinds 0) (h.each 0 below) in
-    as_kind Scalar kind (Ok (remainder_of (operand_at operands 0 place) (operand_at operands 1 place))) h.gives (of_left (operand_at operands 0 place) (operand_at operands 1 place) (subst (λ k. IsCell k (operand_at operands 0 place)) (sym scalar) (cells 0 below)))
+    as_kind Scalar kind (Ok (scalar_remainder (operand_at operands 0 place) (operand_at operands 1 place))) h.gives (of_left (operand_at operands 0 place) (operand_at operands 1 place) (subst (λ k. IsCell k (operand_at operands 0 place)) (sym scalar) (cells 0 below)))
   where
     below : 0 < length setting.kinds
     below = omega (arith, from_least (length setting.kinds) 2 2 h.count)

@@ -14,7 +14,6 @@ use Rattle.map_meaning.specs.declared.program.Operation.{Operation}
 use Rattle.map_meaning.specs.declared.program.Program.{Program}
 use Rattle.map_meaning.specs.declared.row.Meant.TheVariants as meant
 use Rattle.map_meaning.specs.declared.row.Row.{Row}
-use Rattle.map_meaning.specs.declared.table.TheConstants.{OPERATIONS}
 use Rattle.map_meaning.specs.declared.tree.Statement.{Statement}
 use Rattle.map_meaning.specs.Evaluation.{Done, values_of}
 use Rattle.map_meaning.specs.Maps.{CellAt, IsMapOf, WholeMap}
@@ -25,7 +24,7 @@ use Rattle.map_meaning.specs.Programs.{IsWellFormed, StandsBefore}
 use Rattle.map_meaning.specs.Rules.{Setting, kind_at, operand_at, outcome_of}
 use Rattle.map_meaning.specs.Sections.{After, after_statements}
 use Rattle.map_meaning.specs.Spans.{IsSpan, Knows, stage_of}
-use Rattle.map_meaning.specs.Table.{HasKinds, row_of}
+use Rattle.map_meaning.specs.Table.{HasKinds, row_of, table_rows}
 use Rattle.map_meaning.specs.Whole.{whole_above, whole_below}
 
 -- ---- the table
@@ -37,7 +36,7 @@ IsItsRow row = (o : Op) → row.meant ≡ meant.Op o → row_of o ≡ row
 -- each operation has a row that means it, and the table has no other
 pub record HaveOneRow : Type 0 where
   pub row : (o : Op) → (row_of o).meant ≡ meant.Op o
-  pub only : All IsItsRow OPERATIONS
+  pub only : All IsItsRow table_rows
 
 -- ---- cells
 

@@ -5,7 +5,7 @@ use Rattle.std.specs.Ordering.{int_eq}
 use Rattle.cell_values.specs.declared.kind.Kind.TheVariants.{Scalar}
 use Rattle.cell_values.specs.declared.cell.Cell.{Cell}
 use Rattle.cell_values.specs.declared.cell.Cell.TheVariants.{Mv, Val}
-use Rattle.cell_values.specs.Kinds.{cell_of}
+use Rattle.cell_values.specs.Kinds.{cell_of_number}
 use Rattle.cell_values.specs.Arithmetic.{at_cells}
 use Rattle.tile_map.specs.Parts.{Outcome}
 use Rattle.map_meaning.specs.Missing.{at_cell}
@@ -21,23 +21,23 @@ copy_of a = Ok a
 
 -- unary `-`: the negative
 abbrev pub negative_of : Cell → Outcome
-negative_of = at_cell (λ a. cell_of Scalar (neg_ℤ a))
+negative_of = at_cell (λ a. cell_of_number Scalar (neg_ℤ a))
 
 -- `abs`: the size
 abbrev pub abs_of : Cell → Outcome
-abs_of = at_cell (λ a. cell_of Scalar (pos (unsigned_abs a)))
+abs_of = at_cell (λ a. cell_of_number Scalar (pos (unsigned_abs a)))
 
 -- `rounddown`: the greatest whole number that is not above
 abbrev pub rounddown_of : Cell → Outcome
-rounddown_of = at_cell (λ a. cell_of Scalar (whole_below a))
+rounddown_of = at_cell (λ a. cell_of_number Scalar (whole_below a))
 
 -- `roundup`: the least whole number that is not below
 abbrev pub roundup_of : Cell → Outcome
-roundup_of = at_cell (λ a. cell_of Scalar (whole_above a))
+roundup_of = at_cell (λ a. cell_of_number Scalar (whole_above a))
 
 -- `roundoff`: the nearest whole number, ties away from zero
 abbrev pub roundoff_of : Cell → Outcome
-roundoff_of = at_cell (λ a. cell_of Scalar (whole_nearest a))
+roundoff_of = at_cell (λ a. cell_of_number Scalar (whole_nearest a))
 
 -- ---- the least and the greatest
 

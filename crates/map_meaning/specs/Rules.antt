@@ -3,7 +3,7 @@ use Rattle.std.specs.Prelude.{ℕ, List, slice_index_or, Ok}
 use Rattle.cell_values.specs.declared.kind.Kind.{Kind}
 use Rattle.cell_values.specs.declared.kind.Kind.TheVariants.{Boolean, Nominal, Ordinal, Scalar, Directional}
 use Rattle.cell_values.specs.declared.cell.Cell.{Cell}
-use Rattle.cell_values.specs.Arithmetic.{sum_of, difference_of, product_of, quotient_of, whole_quotient_of, remainder_of}
+use Rattle.cell_values.specs.Arithmetic.{scalar_sum, scalar_difference, scalar_product, scalar_quotient, scalar_whole_quotient, scalar_remainder}
 use Rattle.cell_values.specs.Conversion.{conversion_of}
 use Rattle.tile_map.specs.Parts.{Outcome}
 use Rattle.map_meaning.specs.declared.op.Op.{Op}
@@ -42,12 +42,12 @@ converting to = Local (λ setting a b c d. conversion_of (kind_at setting.kinds 
 -- the rule of each operation
 unfoldable pub rule_of : Op → Rule
 rule_of op.CopyOf = one value.copy_of
-rule_of op.Add = two sum_of
-rule_of op.Sub = two difference_of
-rule_of op.Mul = two product_of
-rule_of op.Div = two quotient_of
-rule_of op.IntDiv = two whole_quotient_of
-rule_of op.IntMod = two (λ a b. Ok (remainder_of a b))
+rule_of op.Add = two scalar_sum
+rule_of op.Sub = two scalar_difference
+rule_of op.Mul = two scalar_product
+rule_of op.Div = two scalar_quotient
+rule_of op.IntDiv = two scalar_whole_quotient
+rule_of op.IntMod = two (λ a b. Ok (scalar_remainder a b))
 rule_of op.Neg = one value.negative_of
 rule_of op.Abs = one value.abs_of
 rule_of op.RoundDown = one value.rounddown_of

@@ -1,5 +1,5 @@
 -- The table of operations: the row of an operation, and the kinds that it allows.
-use Rattle.std.specs.Prelude.{◌≡◌, ℕ, ◌<◌, Bool, true, false, ◌&&◌, ◌==◌, List, length, slice_index_or, nat_le, nat_lt, min, if◌then◌else◌}
+use Rattle.std.specs.Prelude.{◌≡◌, ℕ, ◌<◌, Bool, true, false, ◌&&◌, ◌==◌, List, length, slice_index_or, nat_le, nat_lt, if◌then◌else◌}
 use Rattle.cell_values.specs.declared.kind.Kind.{Kind}
 use Rattle.cell_values.specs.declared.kind.Kind.TheVariants.{Boolean, Nominal, Ordinal, Scalar, Directional, Ldd}
 use Rattle.map_meaning.specs.declared.op.Op.{Op}
@@ -31,6 +31,10 @@ has_kind kinds Ordinal = kinds.ordinal
 has_kind kinds Scalar = kinds.scalar
 has_kind kinds Directional = kinds.directional
 has_kind kinds Ldd = kinds.ldd
+
+-- the rows of the table of operations, in their order
+unfoldable pub table_rows : List Row
+table_rows = OPERATIONS
 
 -- the row of the table at a place
 abbrev pub line : ℕ → Row
@@ -72,9 +76,9 @@ row_of op.ToOrdinal = line 29
 row_of op.ToScalar = line 30
 row_of op.ToDirectional = line 31
 
--- what the operand at this place is asked; those behind the third are asked what the third is
+-- what the operand at this place is asked
 abbrev pub ask_at : Row → ℕ → Ask
-ask_at row i = slice_index_or row.asks (min i 2) (ask.Only Scalar)
+ask_at row i = if i == 0 then row.first else if i == 1 then row.second else row.further
 
 -- the operand is asked to agree with others
 abbrev pub is_alike : Ask → Bool

@@ -27,6 +27,6 @@ pub use op::Op;
 pub use program::{InputUse, Operand, Operation, OutputKind, OutputUse, Program, Role};
 pub use row::{Ask, Given, Kinds, Meant, Row, Stands};
 pub use runner::BlockRunner;
-pub use table::{COPY, MANY_OPERANDS, OPERATIONS};
+pub use table::{COPY, MANY_OPERANDS, OPERATIONS, rows};
 pub use tile_map::{Arg, Part};
 pub use tree::{Statement, Tree};

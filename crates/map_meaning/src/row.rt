@@ -77,8 +77,12 @@ pub struct Row {
     pub word: [u8; 20],
     /// What it stands for.
     pub meant: Meant,
-    /// What its operands are asked; those behind the third are asked what the third is.
-    pub asks: [Ask; 3],
+    /// What its first operand is asked.
+    pub first: Ask,
+    /// What its second operand is asked.
+    pub second: Ask,
+    /// What each further operand is asked.
+    pub further: Ask,
     /// How many operands there are at least.
     pub least: usize,
     /// How many operands there are at most. With `MANY_OPERANDS` more than the least are nested calls, from the left.

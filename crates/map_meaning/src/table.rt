@@ -1,3 +1,6 @@
+ghost use Rattle.std.specs.Prelude.{◌≡◌};
+ghost use Rattle.map_meaning.specs.Table.{table_rows};
+
 use crate::op::Op;
 use crate::row::{Ask, Given, Kinds, Meant, Row, Stands};
 use cell_values::Kind;
@@ -86,7 +89,9 @@ pub const MANY_OPERANDS: usize = 1000;
 pub const COPY: Row = Row {
     word: *b"                    ",
     meant: Meant::Op(Op::CopyOf),
-    asks: [Ask::One(MAPS), Ask::One(MAPS), Ask::One(MAPS)],
+    first: Ask::One(MAPS),
+    second: Ask::One(MAPS),
+    further: Ask::One(MAPS),
     least: 1,
     most: 1,
     gives: Given::Same(0),
@@ -95,11 +100,13 @@ pub const COPY: Row = Row {
 
 /// The operations of the language: how each is written, what it stands for, how many operands it takes and what it asks of
 /// them, what kind it gives, and where it may stand.
-pub const OPERATIONS: [Row; 68] = [
+pub static OPERATIONS: [Row; 68] = [
     Row {
         word: *b"+                   ",
         meant: Meant::Op(Op::Add),
-        asks: [SCALAR, SCALAR, SCALAR],
+        first: SCALAR,
+        second: SCALAR,
+        further: SCALAR,
         least: 2,
         most: 2,
         gives: Given::Always(Kind::Scalar),
@@ -108,7 +115,9 @@ pub const OPERATIONS: [Row; 68] = [
     Row {
         word: *b"-                   ",
         meant: Meant::Op(Op::Sub),
-        asks: [SCALAR, SCALAR, SCALAR],
+        first: SCALAR,
+        second: SCALAR,
+        further: SCALAR,
         least: 2,
         most: 2,
         gives: Given::Always(Kind::Scalar),
@@ -117,7 +126,9 @@ pub const OPERATIONS: [Row; 68] = [
     Row {
         word: *b"*                   ",
         meant: Meant::Op(Op::Mul),
-        asks: [SCALAR, SCALAR, SCALAR],
+        first: SCALAR,
+        second: SCALAR,
+        further: SCALAR,
         least: 2,
         most: 2,
         gives: Given::Always(Kind::Scalar),
@@ -126,7 +137,9 @@ pub const OPERATIONS: [Row; 68] = [
     Row {
         word: *b"/                   ",
         meant: Meant::Op(Op::Div),
-        asks: [SCALAR, SCALAR, SCALAR],
+        first: SCALAR,
+        second: SCALAR,
+        further: SCALAR,
         least: 2,
         most: 2,
         gives: Given::Always(Kind::Scalar),
@@ -135,7 +148,9 @@ pub const OPERATIONS: [Row; 68] = [
     Row {
         word: *b"idiv                ",
         meant: Meant::Op(Op::IntDiv),
-        asks: [SCALAR, SCALAR, SCALAR],
+        first: SCALAR,
+        second: SCALAR,
+        further: SCALAR,
         least: 2,
         most: 2,
         gives: Given::Always(Kind::Scalar),
@@ -144,7 +159,9 @@ pub const OPERATIONS: [Row; 68] = [
     Row {
         word: *b"mod                 ",
         meant: Meant::Op(Op::IntMod),
-        asks: [SCALAR, SCALAR, SCALAR],
+        first: SCALAR,
+        second: SCALAR,
+        further: SCALAR,
         least: 2,
         most: 2,
         gives: Given::Always(Kind::Scalar),
@@ -153,7 +170,9 @@ pub const OPERATIONS: [Row; 68] = [
     Row {
         word: *b"-                   ",
         meant: Meant::Op(Op::Neg),
-        asks: [SCALAR, SCALAR, SCALAR],
+        first: SCALAR,
+        second: SCALAR,
+        further: SCALAR,
         least: 1,
         most: 1,
         gives: Given::Always(Kind::Scalar),
@@ -162,7 +181,9 @@ pub const OPERATIONS: [Row; 68] = [
     Row {
         word: *b"abs                 ",
         meant: Meant::Op(Op::Abs),
-        asks: [SCALAR, SCALAR, SCALAR],
+        first: SCALAR,
+        second: SCALAR,
+        further: SCALAR,
         least: 1,
         most: 1,
         gives: Given::Always(Kind::Scalar),
@@ -171,7 +192,9 @@ pub const OPERATIONS: [Row; 68] = [
     Row {
         word: *b"rounddown           ",
         meant: Meant::Op(Op::RoundDown),
-        asks: [SCALAR, SCALAR, SCALAR],
+        first: SCALAR,
+        second: SCALAR,
+        further: SCALAR,
         least: 1,
         most: 1,
         gives: Given::Always(Kind::Scalar),
@@ -180,7 +203,9 @@ pub const OPERATIONS: [Row; 68] = [
     Row {
         word: *b"roundup             ",
         meant: Meant::Op(Op::RoundUp),
-        asks: [SCALAR, SCALAR, SCALAR],
+        first: SCALAR,
+        second: SCALAR,
+        further: SCALAR,
         least: 1,
         most: 1,
         gives: Given::Always(Kind::Scalar),
@@ -189,7 +214,9 @@ pub const OPERATIONS: [Row; 68] = [
     Row {
         word: *b"roundoff            ",
         meant: Meant::Op(Op::RoundOff),
-        asks: [SCALAR, SCALAR, SCALAR],
+        first: SCALAR,
+        second: SCALAR,
+        further: SCALAR,
         least: 1,
         most: 1,
         gives: Given::Always(Kind::Scalar),
@@ -198,11 +225,9 @@ pub const OPERATIONS: [Row; 68] = [
     Row {
         word: *b"min                 ",
         meant: Meant::Op(Op::Min),
-        asks: [
-            Ask::Alike(ORDERED),
-            Ask::Alike(ORDERED),
-            Ask::Alike(ORDERED),
-        ],
+        first: Ask::Alike(ORDERED),
+        second: Ask::Alike(ORDERED),
+        further: Ask::Alike(ORDERED),
         least: 2,
         most: MANY_OPERANDS,
         gives: Given::Common,
@@ -211,11 +236,9 @@ pub const OPERATIONS: [Row; 68] = [
     Row {
         word: *b"max                 ",
         meant: Meant::Op(Op::Max),
-        asks: [
-            Ask::Alike(ORDERED),
-            Ask::Alike(ORDERED),
-            Ask::Alike(ORDERED),
-        ],
+        first: Ask::Alike(ORDERED),
+        second: Ask::Alike(ORDERED),
+        further: Ask::Alike(ORDERED),
         least: 2,
         most: MANY_OPERANDS,
         gives: Given::Common,
@@ -224,7 +247,9 @@ pub const OPERATIONS: [Row; 68] = [
     Row {
         word: *b"==                  ",
         meant: Meant::Op(Op::Equal),
-        asks: [Ask::Alike(MAPS), Ask::Alike(MAPS), Ask::Alike(MAPS)],
+        first: Ask::Alike(MAPS),
+        second: Ask::Alike(MAPS),
+        further: Ask::Alike(MAPS),
         least: 2,
         most: 2,
         gives: Given::Always(Kind::Boolean),
@@ -233,7 +258,9 @@ pub const OPERATIONS: [Row; 68] = [
     Row {
         word: *b"!=                  ",
         meant: Meant::Op(Op::NotEqual),
-        asks: [Ask::Alike(MAPS), Ask::Alike(MAPS), Ask::Alike(MAPS)],
+        first: Ask::Alike(MAPS),
+        second: Ask::Alike(MAPS),
+        further: Ask::Alike(MAPS),
         least: 2,
         most: 2,
         gives: Given::Always(Kind::Boolean),
@@ -242,11 +269,9 @@ pub const OPERATIONS: [Row; 68] = [
     Row {
         word: *b"<                   ",
         meant: Meant::Op(Op::Less),
-        asks: [
-            Ask::Alike(ORDERED),
-            Ask::Alike(ORDERED),
-            Ask::Alike(ORDERED),
-        ],
+        first: Ask::Alike(ORDERED),
+        second: Ask::Alike(ORDERED),
+        further: Ask::Alike(ORDERED),
         least: 2,
         most: 2,
         gives: Given::Always(Kind::Boolean),
@@ -255,11 +280,9 @@ pub const OPERATIONS: [Row; 68] = [
     Row {
         word: *b"<=                  ",
         meant: Meant::Op(Op::LessEqual),
-        asks: [
-            Ask::Alike(ORDERED),
-            Ask::Alike(ORDERED),
-            Ask::Alike(ORDERED),
-        ],
+        first: Ask::Alike(ORDERED),
+        second: Ask::Alike(ORDERED),
+        further: Ask::Alike(ORDERED),
         least: 2,
         most: 2,
         gives: Given::Always(Kind::Boolean),
@@ -268,11 +291,9 @@ pub const OPERATIONS: [Row; 68] = [
     Row {
         word: *b">                   ",
         meant: Meant::Op(Op::Greater),
-        asks: [
-            Ask::Alike(ORDERED),
-            Ask::Alike(ORDERED),
-            Ask::Alike(ORDERED),
-        ],
+        first: Ask::Alike(ORDERED),
+        second: Ask::Alike(ORDERED),
+        further: Ask::Alike(ORDERED),
         least: 2,
         most: 2,
         gives: Given::Always(Kind::Boolean),
@@ -281,11 +302,9 @@ pub const OPERATIONS: [Row; 68] = [
     Row {
         word: *b">=                  ",
         meant: Meant::Op(Op::GreaterEqual),
-        asks: [
-            Ask::Alike(ORDERED),
-            Ask::Alike(ORDERED),
-            Ask::Alike(ORDERED),
-        ],
+        first: Ask::Alike(ORDERED),
+        second: Ask::Alike(ORDERED),
+        further: Ask::Alike(ORDERED),
         least: 2,
         most: 2,
         gives: Given::Always(Kind::Boolean),
@@ -294,7 +313,9 @@ pub const OPERATIONS: [Row; 68] = [
     Row {
         word: *b"and                 ",
         meant: Meant::Op(Op::And),
-        asks: [BOOLEAN, BOOLEAN, BOOLEAN],
+        first: BOOLEAN,
+        second: BOOLEAN,
+        further: BOOLEAN,
         least: 2,
         most: 2,
         gives: Given::Always(Kind::Boolean),
@@ -303,7 +324,9 @@ pub const OPERATIONS: [Row; 68] = [
     Row {
         word: *b"or                  ",
         meant: Meant::Op(Op::Or),
-        asks: [BOOLEAN, BOOLEAN, BOOLEAN],
+        first: BOOLEAN,
+        second: BOOLEAN,
+        further: BOOLEAN,
         least: 2,
         most: 2,
         gives: Given::Always(Kind::Boolean),
@@ -312,7 +335,9 @@ pub const OPERATIONS: [Row; 68] = [
     Row {
         word: *b"xor                 ",
         meant: Meant::Op(Op::Xor),
-        asks: [BOOLEAN, BOOLEAN, BOOLEAN],
+        first: BOOLEAN,
+        second: BOOLEAN,
+        further: BOOLEAN,
         least: 2,
         most: 2,
         gives: Given::Always(Kind::Boolean),
@@ -321,7 +346,9 @@ pub const OPERATIONS: [Row; 68] = [
     Row {
         word: *b"not                 ",
         meant: Meant::Op(Op::Not),
-        asks: [BOOLEAN, BOOLEAN, BOOLEAN],
+        first: BOOLEAN,
+        second: BOOLEAN,
+        further: BOOLEAN,
         least: 1,
         most: 1,
         gives: Given::Always(Kind::Boolean),
@@ -330,7 +357,9 @@ pub const OPERATIONS: [Row; 68] = [
     Row {
         word: *b"if                  ",
         meant: Meant::Op(Op::IfThen),
-        asks: [BOOLEAN, Ask::One(MAPS), Ask::One(MAPS)],
+        first: BOOLEAN,
+        second: Ask::One(MAPS),
+        further: Ask::One(MAPS),
         least: 2,
         most: 2,
         gives: Given::Same(1),
@@ -339,7 +368,9 @@ pub const OPERATIONS: [Row; 68] = [
     Row {
         word: *b"if                  ",
         meant: Meant::Op(Op::IfElse),
-        asks: [BOOLEAN, Ask::Alike(MAPS), Ask::Alike(MAPS)],
+        first: BOOLEAN,
+        second: Ask::Alike(MAPS),
+        further: Ask::Alike(MAPS),
         least: 3,
         most: 3,
         gives: Given::Common,
@@ -348,7 +379,9 @@ pub const OPERATIONS: [Row; 68] = [
     Row {
         word: *b"cover               ",
         meant: Meant::Op(Op::Cover),
-        asks: [Ask::Alike(MAPS), Ask::Alike(MAPS), Ask::Alike(MAPS)],
+        first: Ask::Alike(MAPS),
+        second: Ask::Alike(MAPS),
+        further: Ask::Alike(MAPS),
         least: 2,
         most: MANY_OPERANDS,
         gives: Given::Common,
@@ -357,7 +390,9 @@ pub const OPERATIONS: [Row; 68] = [
     Row {
         word: *b"defined             ",
         meant: Meant::Op(Op::Defined),
-        asks: [Ask::One(ALL), Ask::One(ALL), Ask::One(ALL)],
+        first: Ask::One(ALL),
+        second: Ask::One(ALL),
+        further: Ask::One(ALL),
         least: 1,
         most: 1,
         gives: Given::Always(Kind::Boolean),
@@ -366,7 +401,9 @@ pub const OPERATIONS: [Row; 68] = [
     Row {
         word: *b"boolean             ",
         meant: Meant::Op(Op::ToBoolean),
-        asks: [Ask::One(NUMBERS), Ask::One(NUMBERS), Ask::One(NUMBERS)],
+        first: Ask::One(NUMBERS),
+        second: Ask::One(NUMBERS),
+        further: Ask::One(NUMBERS),
         least: 1,
         most: 1,
         gives: Given::Always(Kind::Boolean),
@@ -375,7 +412,9 @@ pub const OPERATIONS: [Row; 68] = [
     Row {
         word: *b"nominal             ",
         meant: Meant::Op(Op::ToNominal),
-        asks: [Ask::One(WHOLES), Ask::One(WHOLES), Ask::One(WHOLES)],
+        first: Ask::One(WHOLES),
+        second: Ask::One(WHOLES),
+        further: Ask::One(WHOLES),
         least: 1,
         most: 1,
         gives: Given::Always(Kind::Nominal),
@@ -384,7 +423,9 @@ pub const OPERATIONS: [Row; 68] = [
     Row {
         word: *b"ordinal             ",
         meant: Meant::Op(Op::ToOrdinal),
-        asks: [Ask::One(WHOLES), Ask::One(WHOLES), Ask::One(WHOLES)],
+        first: Ask::One(WHOLES),
+        second: Ask::One(WHOLES),
+        further: Ask::One(WHOLES),
         least: 1,
         most: 1,
         gives: Given::Always(Kind::Ordinal),
@@ -393,7 +434,9 @@ pub const OPERATIONS: [Row; 68] = [
     Row {
         word: *b"scalar              ",
         meant: Meant::Op(Op::ToScalar),
-        asks: [Ask::One(ALL), Ask::One(ALL), Ask::One(ALL)],
+        first: Ask::One(ALL),
+        second: Ask::One(ALL),
+        further: Ask::One(ALL),
         least: 1,
         most: 1,
         gives: Given::Always(Kind::Scalar),
@@ -402,7 +445,9 @@ pub const OPERATIONS: [Row; 68] = [
     Row {
         word: *b"directional         ",
         meant: Meant::Op(Op::ToDirectional),
-        asks: [Ask::One(ANGLES), Ask::One(ANGLES), Ask::One(ANGLES)],
+        first: Ask::One(ANGLES),
+        second: Ask::One(ANGLES),
+        further: Ask::One(ANGLES),
         least: 1,
         most: 1,
         gives: Given::Always(Kind::Directional),
@@ -411,7 +456,9 @@ pub const OPERATIONS: [Row; 68] = [
     Row {
         word: *b"lookupboolean       ",
         meant: Meant::Unbuilt,
-        asks: [Ask::Table(Kind::Boolean), Ask::One(MAPS), Ask::One(MAPS)],
+        first: Ask::Table(Kind::Boolean),
+        second: Ask::One(MAPS),
+        further: Ask::One(MAPS),
         least: 2,
         most: 5,
         gives: Given::Always(Kind::Boolean),
@@ -420,7 +467,9 @@ pub const OPERATIONS: [Row; 68] = [
     Row {
         word: *b"lookupnominal       ",
         meant: Meant::Unbuilt,
-        asks: [Ask::Table(Kind::Nominal), Ask::One(MAPS), Ask::One(MAPS)],
+        first: Ask::Table(Kind::Nominal),
+        second: Ask::One(MAPS),
+        further: Ask::One(MAPS),
         least: 2,
         most: 5,
         gives: Given::Always(Kind::Nominal),
@@ -429,7 +478,9 @@ pub const OPERATIONS: [Row; 68] = [
     Row {
         word: *b"lookupordinal       ",
         meant: Meant::Unbuilt,
-        asks: [Ask::Table(Kind::Ordinal), Ask::One(MAPS), Ask::One(MAPS)],
+        first: Ask::Table(Kind::Ordinal),
+        second: Ask::One(MAPS),
+        further: Ask::One(MAPS),
         least: 2,
         most: 5,
         gives: Given::Always(Kind::Ordinal),
@@ -438,7 +489,9 @@ pub const OPERATIONS: [Row; 68] = [
     Row {
         word: *b"lookupscalar        ",
         meant: Meant::Unbuilt,
-        asks: [Ask::Table(Kind::Scalar), Ask::One(MAPS), Ask::One(MAPS)],
+        first: Ask::Table(Kind::Scalar),
+        second: Ask::One(MAPS),
+        further: Ask::One(MAPS),
         least: 2,
         most: 5,
         gives: Given::Always(Kind::Scalar),
@@ -447,11 +500,9 @@ pub const OPERATIONS: [Row; 68] = [
     Row {
         word: *b"lookupdirectional   ",
         meant: Meant::Unbuilt,
-        asks: [
-            Ask::Table(Kind::Directional),
-            Ask::One(MAPS),
-            Ask::One(MAPS),
-        ],
+        first: Ask::Table(Kind::Directional),
+        second: Ask::One(MAPS),
+        further: Ask::One(MAPS),
         least: 2,
         most: 5,
         gives: Given::Always(Kind::Directional),
@@ -460,11 +511,9 @@ pub const OPERATIONS: [Row; 68] = [
     Row {
         word: *b"timeinputboolean    ",
         meant: Meant::Unbuilt,
-        asks: [
-            Ask::Series(Kind::Boolean),
-            Ask::One(CLASSES),
-            Ask::One(CLASSES),
-        ],
+        first: Ask::Series(Kind::Boolean),
+        second: Ask::One(CLASSES),
+        further: Ask::One(CLASSES),
         least: 2,
         most: 2,
         gives: Given::Always(Kind::Boolean),
@@ -473,11 +522,9 @@ pub const OPERATIONS: [Row; 68] = [
     Row {
         word: *b"timeinputnominal    ",
         meant: Meant::Unbuilt,
-        asks: [
-            Ask::Series(Kind::Nominal),
-            Ask::One(CLASSES),
-            Ask::One(CLASSES),
-        ],
+        first: Ask::Series(Kind::Nominal),
+        second: Ask::One(CLASSES),
+        further: Ask::One(CLASSES),
         least: 2,
         most: 2,
         gives: Given::Always(Kind::Nominal),
@@ -486,11 +533,9 @@ pub const OPERATIONS: [Row; 68] = [
     Row {
         word: *b"timeinputordinal    ",
         meant: Meant::Unbuilt,
-        asks: [
-            Ask::Series(Kind::Ordinal),
-            Ask::One(CLASSES),
-            Ask::One(CLASSES),
-        ],
+        first: Ask::Series(Kind::Ordinal),
+        second: Ask::One(CLASSES),
+        further: Ask::One(CLASSES),
         least: 2,
         most: 2,
         gives: Given::Always(Kind::Ordinal),
@@ -499,11 +544,9 @@ pub const OPERATIONS: [Row; 68] = [
     Row {
         word: *b"timeinputscalar     ",
         meant: Meant::Unbuilt,
-        asks: [
-            Ask::Series(Kind::Scalar),
-            Ask::One(CLASSES),
-            Ask::One(CLASSES),
-        ],
+        first: Ask::Series(Kind::Scalar),
+        second: Ask::One(CLASSES),
+        further: Ask::One(CLASSES),
         least: 2,
         most: 2,
         gives: Given::Always(Kind::Scalar),
@@ -512,11 +555,9 @@ pub const OPERATIONS: [Row; 68] = [
     Row {
         word: *b"timeinputdirectional",
         meant: Meant::Unbuilt,
-        asks: [
-            Ask::Series(Kind::Directional),
-            Ask::One(CLASSES),
-            Ask::One(CLASSES),
-        ],
+        first: Ask::Series(Kind::Directional),
+        second: Ask::One(CLASSES),
+        further: Ask::One(CLASSES),
         least: 2,
         most: 2,
         gives: Given::Always(Kind::Directional),
@@ -525,7 +566,9 @@ pub const OPERATIONS: [Row; 68] = [
     Row {
         word: *b"timeinput           ",
         meant: Meant::Unbuilt,
-        asks: [Ask::Stack, Ask::Stack, Ask::Stack],
+        first: Ask::Stack,
+        second: Ask::Stack,
+        further: Ask::Stack,
         least: 1,
         most: 1,
         gives: Given::Same(0),
@@ -534,7 +577,9 @@ pub const OPERATIONS: [Row; 68] = [
     Row {
         word: *b"time                ",
         meant: Meant::Unbuilt,
-        asks: [SCALAR, SCALAR, SCALAR],
+        first: SCALAR,
+        second: SCALAR,
+        further: SCALAR,
         least: 0,
         most: 0,
         gives: Given::Always(Kind::Scalar),
@@ -543,7 +588,9 @@ pub const OPERATIONS: [Row; 68] = [
     Row {
         word: *b"timeoutput          ",
         meant: Meant::Unbuilt,
-        asks: [Ask::One(CLASSES), Ask::One(MAPS), Ask::One(MAPS)],
+        first: Ask::One(CLASSES),
+        second: Ask::One(MAPS),
+        further: Ask::One(MAPS),
         least: 2,
         most: 2,
         gives: Given::Same(1),
@@ -552,7 +599,9 @@ pub const OPERATIONS: [Row; 68] = [
     Row {
         word: *b"windowtotal         ",
         meant: Meant::Unbuilt,
-        asks: [SCALAR, Ask::Length, Ask::Length],
+        first: SCALAR,
+        second: Ask::Length,
+        further: Ask::Length,
         least: 2,
         most: 2,
         gives: Given::Always(Kind::Scalar),
@@ -561,7 +610,9 @@ pub const OPERATIONS: [Row; 68] = [
     Row {
         word: *b"windowaverage       ",
         meant: Meant::Unbuilt,
-        asks: [SCALAR, Ask::Length, Ask::Length],
+        first: SCALAR,
+        second: Ask::Length,
+        further: Ask::Length,
         least: 2,
         most: 2,
         gives: Given::Always(Kind::Scalar),
@@ -570,7 +621,9 @@ pub const OPERATIONS: [Row; 68] = [
     Row {
         word: *b"windowminimum       ",
         meant: Meant::Unbuilt,
-        asks: [Ask::One(ORDERED), Ask::Length, Ask::Length],
+        first: Ask::One(ORDERED),
+        second: Ask::Length,
+        further: Ask::Length,
         least: 2,
         most: 2,
         gives: Given::Same(0),
@@ -579,7 +632,9 @@ pub const OPERATIONS: [Row; 68] = [
     Row {
         word: *b"windowmaximum       ",
         meant: Meant::Unbuilt,
-        asks: [Ask::One(ORDERED), Ask::Length, Ask::Length],
+        first: Ask::One(ORDERED),
+        second: Ask::Length,
+        further: Ask::Length,
         least: 2,
         most: 2,
         gives: Given::Same(0),
@@ -588,7 +643,9 @@ pub const OPERATIONS: [Row; 68] = [
     Row {
         word: *b"windowdiversity     ",
         meant: Meant::Unbuilt,
-        asks: [Ask::One(CLASSES), Ask::Length, Ask::Length],
+        first: Ask::One(CLASSES),
+        second: Ask::Length,
+        further: Ask::Length,
         least: 2,
         most: 2,
         gives: Given::Always(Kind::Scalar),
@@ -597,7 +654,9 @@ pub const OPERATIONS: [Row; 68] = [
     Row {
         word: *b"windowmajority      ",
         meant: Meant::Unbuilt,
-        asks: [Ask::One(CLASSES), Ask::Length, Ask::Length],
+        first: Ask::One(CLASSES),
+        second: Ask::Length,
+        further: Ask::Length,
         least: 2,
         most: 2,
         gives: Given::Same(0),
@@ -606,7 +665,9 @@ pub const OPERATIONS: [Row; 68] = [
     Row {
         word: *b"areatotal           ",
         meant: Meant::Unbuilt,
-        asks: [SCALAR, Ask::One(CLASSES), Ask::One(CLASSES)],
+        first: SCALAR,
+        second: Ask::One(CLASSES),
+        further: Ask::One(CLASSES),
         least: 2,
         most: 2,
         gives: Given::Always(Kind::Scalar),
@@ -615,7 +676,9 @@ pub const OPERATIONS: [Row; 68] = [
     Row {
         word: *b"areaaverage         ",
         meant: Meant::Unbuilt,
-        asks: [SCALAR, Ask::One(CLASSES), Ask::One(CLASSES)],
+        first: SCALAR,
+        second: Ask::One(CLASSES),
+        further: Ask::One(CLASSES),
         least: 2,
         most: 2,
         gives: Given::Always(Kind::Scalar),
@@ -624,7 +687,9 @@ pub const OPERATIONS: [Row; 68] = [
     Row {
         word: *b"areaminimum         ",
         meant: Meant::Unbuilt,
-        asks: [Ask::One(ORDERED), Ask::One(CLASSES), Ask::One(CLASSES)],
+        first: Ask::One(ORDERED),
+        second: Ask::One(CLASSES),
+        further: Ask::One(CLASSES),
         least: 2,
         most: 2,
         gives: Given::Same(0),
@@ -633,7 +698,9 @@ pub const OPERATIONS: [Row; 68] = [
     Row {
         word: *b"areamaximum         ",
         meant: Meant::Unbuilt,
-        asks: [Ask::One(ORDERED), Ask::One(CLASSES), Ask::One(CLASSES)],
+        first: Ask::One(ORDERED),
+        second: Ask::One(CLASSES),
+        further: Ask::One(CLASSES),
         least: 2,
         most: 2,
         gives: Given::Same(0),
@@ -642,7 +709,9 @@ pub const OPERATIONS: [Row; 68] = [
     Row {
         word: *b"areadiversity       ",
         meant: Meant::Unbuilt,
-        asks: [Ask::One(CLASSES), Ask::One(CLASSES), Ask::One(CLASSES)],
+        first: Ask::One(CLASSES),
+        second: Ask::One(CLASSES),
+        further: Ask::One(CLASSES),
         least: 2,
         most: 2,
         gives: Given::Always(Kind::Scalar),
@@ -651,7 +720,9 @@ pub const OPERATIONS: [Row; 68] = [
     Row {
         word: *b"areamajority        ",
         meant: Meant::Unbuilt,
-        asks: [Ask::One(CLASSES), Ask::One(CLASSES), Ask::One(CLASSES)],
+        first: Ask::One(CLASSES),
+        second: Ask::One(CLASSES),
+        further: Ask::One(CLASSES),
         least: 2,
         most: 2,
         gives: Given::Same(0),
@@ -660,7 +731,9 @@ pub const OPERATIONS: [Row; 68] = [
     Row {
         word: *b"areaarea            ",
         meant: Meant::Unbuilt,
-        asks: [Ask::One(CLASSES), Ask::One(CLASSES), Ask::One(CLASSES)],
+        first: Ask::One(CLASSES),
+        second: Ask::One(CLASSES),
+        further: Ask::One(CLASSES),
         least: 1,
         most: 1,
         gives: Given::Always(Kind::Scalar),
@@ -669,7 +742,9 @@ pub const OPERATIONS: [Row; 68] = [
     Row {
         word: *b"maptotal            ",
         meant: Meant::Unbuilt,
-        asks: [SCALAR, SCALAR, SCALAR],
+        first: SCALAR,
+        second: SCALAR,
+        further: SCALAR,
         least: 1,
         most: 1,
         gives: Given::Always(Kind::Scalar),
@@ -678,7 +753,9 @@ pub const OPERATIONS: [Row; 68] = [
     Row {
         word: *b"mapminimum          ",
         meant: Meant::Unbuilt,
-        asks: [Ask::One(ORDERED), Ask::One(ORDERED), Ask::One(ORDERED)],
+        first: Ask::One(ORDERED),
+        second: Ask::One(ORDERED),
+        further: Ask::One(ORDERED),
         least: 1,
         most: 1,
         gives: Given::Same(0),
@@ -687,7 +764,9 @@ pub const OPERATIONS: [Row; 68] = [
     Row {
         word: *b"mapmaximum          ",
         meant: Meant::Unbuilt,
-        asks: [Ask::One(ORDERED), Ask::One(ORDERED), Ask::One(ORDERED)],
+        first: Ask::One(ORDERED),
+        second: Ask::One(ORDERED),
+        further: Ask::One(ORDERED),
         least: 1,
         most: 1,
         gives: Given::Same(0),
@@ -696,7 +775,9 @@ pub const OPERATIONS: [Row; 68] = [
     Row {
         word: *b"upstream            ",
         meant: Meant::Unbuilt,
-        asks: [DRAIN, SCALAR, SCALAR],
+        first: DRAIN,
+        second: SCALAR,
+        further: SCALAR,
         least: 2,
         most: 2,
         gives: Given::Always(Kind::Scalar),
@@ -705,7 +786,9 @@ pub const OPERATIONS: [Row; 68] = [
     Row {
         word: *b"downstream          ",
         meant: Meant::Unbuilt,
-        asks: [DRAIN, SCALAR, SCALAR],
+        first: DRAIN,
+        second: SCALAR,
+        further: SCALAR,
         least: 2,
         most: 2,
         gives: Given::Always(Kind::Scalar),
@@ -714,7 +797,9 @@ pub const OPERATIONS: [Row; 68] = [
     Row {
         word: *b"accuflux            ",
         meant: Meant::Unbuilt,
-        asks: [DRAIN, SCALAR, SCALAR],
+        first: DRAIN,
+        second: SCALAR,
+        further: SCALAR,
         least: 2,
         most: 2,
         gives: Given::Always(Kind::Scalar),
@@ -723,7 +808,9 @@ pub const OPERATIONS: [Row; 68] = [
     Row {
         word: *b"accuthresholdflux   ",
         meant: Meant::Unbuilt,
-        asks: [DRAIN, SCALAR, SCALAR],
+        first: DRAIN,
+        second: SCALAR,
+        further: SCALAR,
         least: 3,
         most: 3,
         gives: Given::Always(Kind::Scalar),
@@ -732,7 +819,9 @@ pub const OPERATIONS: [Row; 68] = [
     Row {
         word: *b"accuthresholdstate  ",
         meant: Meant::Unbuilt,
-        asks: [DRAIN, SCALAR, SCALAR],
+        first: DRAIN,
+        second: SCALAR,
+        further: SCALAR,
         least: 3,
         most: 3,
         gives: Given::Always(Kind::Scalar),
@@ -741,7 +830,9 @@ pub const OPERATIONS: [Row; 68] = [
     Row {
         word: *b"catchment           ",
         meant: Meant::Unbuilt,
-        asks: [DRAIN, Ask::One(CLASSES), Ask::One(CLASSES)],
+        first: DRAIN,
+        second: Ask::One(CLASSES),
+        further: Ask::One(CLASSES),
         least: 2,
         most: 2,
         gives: Given::Same(1),
@@ -750,10 +841,20 @@ pub const OPERATIONS: [Row; 68] = [
     Row {
         word: *b"lddmask             ",
         meant: Meant::Unbuilt,
-        asks: [DRAIN, BOOLEAN, BOOLEAN],
+        first: DRAIN,
+        second: BOOLEAN,
+        further: BOOLEAN,
         least: 2,
         most: 2,
         gives: Given::Always(Kind::Ldd),
         stands: Stands::Mask,
     },
 ];
+
+/// The rows of the table of operations, in their order.
+#[tactic(auto, unfolding(crate::specs::Table::table_rows))]
+pub fn rows() -> &'static [Row]
+    ensures { result.now ≡ table_rows }
+{
+    &OPERATIONS
+}

@@ -4,8 +4,8 @@ use Rattle.std.specs.Ordering.{int_eq}
 use Rattle.cell_values.specs.declared.kind.Kind.TheVariants.{Boolean, Nominal, Ordinal, Scalar, Directional}
 use Rattle.cell_values.specs.declared.cell.Cell.{Cell}
 use Rattle.cell_values.specs.declared.cell.Cell.TheVariants.{Mv, Val}
-use Rattle.cell_values.specs.Kinds.{cell_of}
-use Rattle.cell_values.specs.Arithmetic.{at_cells, remainder_of}
+use Rattle.cell_values.specs.Kinds.{cell_of_number}
+use Rattle.cell_values.specs.Arithmetic.{at_cells, scalar_remainder}
 use Rattle.cell_values.specs.Conversion.{conversion_of}
 use Rattle.cell_values.specs.Rounding.{cut_quotient, nearest, nearest_quotient}
 use Rattle.tile_map.specs.Parts.{Outcome}
@@ -48,13 +48,13 @@ of_two f x y (inl h) = ap (λ z. at_cells f z y) h
 of_two f x y (inr h) = ap (at_cells f x) h ∙ of_second f x
 
 -- what is left of a number
-left_second : (x : Cell) → remainder_of x Mv ≡ Mv
+left_second : (x : Cell) → scalar_remainder x Mv ≡ Mv
 left_second Mv = refl
 left_second (Val a) = refl
 
-of_left : (x y : Cell) → (x ≡ Mv) ⊎ (y ≡ Mv) → remainder_of x y ≡ Mv
-of_left x y (inl h) = ap (λ z. remainder_of z y) h
-of_left x y (inr h) = ap (remainder_of x) h ∙ left_second x
+of_left : (x y : Cell) → (x ≡ Mv) ⊎ (y ≡ Mv) → scalar_remainder x y ≡ Mv
+of_left x y (inl h) = ap (λ z. scalar_remainder z y) h
+of_left x y (inr h) = ap (scalar_remainder x) h ∙ left_second x
 
 -- a branch that is not there
 no_cell : (b : Bool) → cond b Mv Mv ≡ Mv
@@ -75,17 +75,17 @@ spreads : (o : Op) (setting : Setting) (operands : List CellAt) (place i : ℕ) 
     spreads_missing o ≡ true → i < (row_of o).least → operand_at operands i place ≡ Mv → outcome_of o setting operands place ≡ Ok Mv
 unfolding row_of rule_of
 spreads op.CopyOf setting operands place i spread below gone = ap Ok (only_one (λ i. operand_at operands i place ≡ Mv) i below gone)
-spreads op.Add setting operands place i spread below gone = of_two (λ a b. cell_of Scalar (a +ℤ b)) (operand_at operands 0 place) (operand_at operands 1 place) (one_of_two (λ i. operand_at operands i place ≡ Mv) i below gone)
-spreads op.Sub setting operands place i spread below gone = of_two (λ a b. cell_of Scalar (a -ℤ b)) (operand_at operands 0 place) (operand_at operands 1 place) (one_of_two (λ i. operand_at operands i place ≡ Mv) i below gone)
-spreads op.Mul setting operands place i spread below gone = of_two (λ a b. cell_of Scalar (nearest (a *ℤ b) 1000000)) (operand_at operands 0 place) (operand_at operands 1 place) (one_of_two (λ i. operand_at operands i place ≡ Mv) i below gone)
-spreads op.Div setting operands place i spread below gone = of_two (λ a b. cond (int_eq b (pos 0)) (Ok Mv) (cell_of Scalar (nearest_quotient (a *ℤ pos 1000000) b))) (operand_at operands 0 place) (operand_at operands 1 place) (one_of_two (λ i. operand_at operands i place ≡ Mv) i below gone)
-spreads op.IntDiv setting operands place i spread below gone = of_two (λ a b. cond (int_eq b (pos 0)) (Ok Mv) (cell_of Scalar (cut_quotient a b *ℤ pos 1000000))) (operand_at operands 0 place) (operand_at operands 1 place) (one_of_two (λ i. operand_at operands i place ≡ Mv) i below gone)
+spreads op.Add setting operands place i spread below gone = of_two (λ a b. cell_of_number Scalar (a +ℤ b)) (operand_at operands 0 place) (operand_at operands 1 place) (one_of_two (λ i. operand_at operands i place ≡ Mv) i below gone)
+spreads op.Sub setting operands place i spread below gone = of_two (λ a b. cell_of_number Scalar (a -ℤ b)) (operand_at operands 0 place) (operand_at operands 1 place) (one_of_two (λ i. operand_at operands i place ≡ Mv) i below gone)
+spreads op.Mul setting operands place i spread below gone = of_two (λ a b. cell_of_number Scalar (nearest (a *ℤ b) 1000000)) (operand_at operands 0 place) (operand_at operands 1 place) (one_of_two (λ i. operand_at operands i place ≡ Mv) i below gone)
+spreads op.Div setting operands place i spread below gone = of_two (λ a b. cond (int_eq b (pos 0)) (Ok Mv) (cell_of_number Scalar (nearest_quotient (a *ℤ pos 1000000) b))) (operand_at operands 0 place) (operand_at operands 1 place) (one_of_two (λ i. operand_at operands i place ≡ Mv) i below gone)
+spreads op.IntDiv setting operands place i spread below gone = of_two (λ a b. cond (int_eq b (pos 0)) (Ok Mv) (cell_of_number Scalar (cut_quotient a b *ℤ pos 1000000))) (operand_at operands 0 place) (operand_at operands 1 place) (one_of_two (λ i. operand_at operands i place ≡ Mv) i below gone)
 spreads op.IntMod setting operands place i spread below gone = ap Ok (of_left (operand_at operands 0 place) (operand_at operands 1 place) (one_of_two (λ i. operand_at operands i place ≡ Mv) i below gone))
-spreads op.Neg setting operands place i spread below gone = of_one (λ a. cell_of Scalar (neg_ℤ a)) (operand_at operands 0 place) (only_one (λ i. operand_at operands i place ≡ Mv) i below gone)
-spreads op.Abs setting operands place i spread below gone = of_one (λ a. cell_of Scalar (pos (unsigned_abs a))) (operand_at operands 0 place) (only_one (λ i. operand_at operands i place ≡ Mv) i below gone)
-spreads op.RoundDown setting operands place i spread below gone = of_one (λ a. cell_of Scalar (whole_below a)) (operand_at operands 0 place) (only_one (λ i. operand_at operands i place ≡ Mv) i below gone)
-spreads op.RoundUp setting operands place i spread below gone = of_one (λ a. cell_of Scalar (whole_above a)) (operand_at operands 0 place) (only_one (λ i. operand_at operands i place ≡ Mv) i below gone)
-spreads op.RoundOff setting operands place i spread below gone = of_one (λ a. cell_of Scalar (whole_nearest a)) (operand_at operands 0 place) (only_one (λ i. operand_at operands i place ≡ Mv) i below gone)
+spreads op.Neg setting operands place i spread below gone = of_one (λ a. cell_of_number Scalar (neg_ℤ a)) (operand_at operands 0 place) (only_one (λ i. operand_at operands i place ≡ Mv) i below gone)
+spreads op.Abs setting operands place i spread below gone = of_one (λ a. cell_of_number Scalar (pos (unsigned_abs a))) (operand_at operands 0 place) (only_one (λ i. operand_at operands i place ≡ Mv) i below gone)
+spreads op.RoundDown setting operands place i spread below gone = of_one (λ a. cell_of_number Scalar (whole_below a)) (operand_at operands 0 place) (only_one (λ i. operand_at operands i place ≡ Mv) i below gone)
+spreads op.RoundUp setting operands place i spread below gone = of_one (λ a. cell_of_number Scalar (whole_above a)) (operand_at operands 0 place) (only_one (λ i. operand_at operands i place ≡ Mv) i below gone)
+spreads op.RoundOff setting operands place i spread below gone = of_one (λ a. cell_of_number Scalar (whole_nearest a)) (operand_at operands 0 place) (only_one (λ i. operand_at operands i place ≡ Mv) i below gone)
 spreads op.Min setting operands place i spread below gone = of_two (λ a b. Ok (Val (cond (int_le a b) a b))) (operand_at operands 0 place) (operand_at operands 1 place) (one_of_two (λ i. operand_at operands i place ≡ Mv) i below gone)
 spreads op.Max setting operands place i spread below gone = of_two (λ a b. Ok (Val (cond (int_le a b) b a))) (operand_at operands 0 place) (operand_at operands 1 place) (one_of_two (λ i. operand_at operands i place ≡ Mv) i below gone)
 spreads op.Equal setting operands place i spread below gone = of_two (λ a b. Ok (truth (int_eq a b))) (operand_at operands 0 place) (operand_at operands 1 place) (one_of_two (λ i. operand_at operands i place ≡ Mv) i below gone)

@@ -7,12 +7,12 @@ use Rattle.map_meaning.specs.declared.row.Meant.TheVariants as meant
 use Rattle.map_meaning.specs.declared.row.Row.{Row}
 use Rattle.map_meaning.specs.declared.table.TheConstants.{OPERATIONS}
 use Rattle.map_meaning.specs.Laws.{IsItsRow}
-use Rattle.map_meaning.specs.Table.{row_of}
+use Rattle.map_meaning.specs.Table.{row_of, table_rows}
 use Rattle.map_meaning.proofs.laws.operations_have_one_row.Goals as goal
 
 -- each row means its operation
 its_meaning : (o : Op) → (row_of o).meant ≡ meant.Op o
-unfolding row_of
+unfolding row_of table_rows
 its_meaning op.CopyOf = refl
 its_meaning op.Add = refl
 its_meaning op.Sub = refl
@@ -72,7 +72,7 @@ from_each P [] each = All-nil P
 from_each P (row ∷ rows) each = All-cons P row rows each.0 (from_each P rows each.1)
 
 pub returns : goal.returns
-unfolding row_of
+unfolding row_of table_rows
 returns c = record {
   row = its_meaning;
   only = from_each IsItsRow OPERATIONS ((
