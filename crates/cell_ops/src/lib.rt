@@ -17,6 +17,6 @@ mod scalar;
 mod shape;
 mod work;
 
-pub use part::cell_part;
 pub use laws::works_give_what_operations_mean;
+pub use part::cell_part;
 pub use work::CellWork;

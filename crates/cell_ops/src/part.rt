@@ -12,8 +12,8 @@ use crate::extreme::{Greatest, Least};
 use crate::logic::{And, Not, Or, Xor};
 use crate::places::{one, three, two};
 use crate::scalar::{
-    Difference, Negative, OnScalar, Product, Quotient, Remainder, Size, Sum, WholeAbove, WholeBelow,
-    WholeNearest, WholeQuotient,
+    Difference, Negative, OnScalar, Product, Quotient, Remainder, Size, Sum, WholeAbove,
+    WholeBelow, WholeNearest, WholeQuotient,
 };
 use crate::work::CellWork;
 use map_meaning::{Arg, Op, Part};
@@ -48,17 +48,70 @@ fn plain(
         Op::IntMod => two(alloc, &Remainder, len, a, b),
         Op::Neg => one(alloc, &OnScalar { function: Negative }, len, a),
         Op::Abs => one(alloc, &OnScalar { function: Size }, len, a),
-        Op::RoundDown => one(alloc, &OnScalar { function: WholeBelow }, len, a),
-        Op::RoundUp => one(alloc, &OnScalar { function: WholeAbove }, len, a),
-        Op::RoundOff => one(alloc, &OnScalar { function: WholeNearest }, len, a),
+        Op::RoundDown => one(
+            alloc,
+            &OnScalar {
+                function: WholeBelow,
+            },
+            len,
+            a,
+        ),
+        Op::RoundUp => one(
+            alloc,
+            &OnScalar {
+                function: WholeAbove,
+            },
+            len,
+            a,
+        ),
+        Op::RoundOff => one(
+            alloc,
+            &OnScalar {
+                function: WholeNearest,
+            },
+            len,
+            a,
+        ),
         Op::Min => two(alloc, &Least, len, a, b),
         Op::Max => two(alloc, &Greatest, len, a, b),
         Op::Equal => two(alloc, &Compared { comparison: Equal }, len, a, b),
-        Op::NotEqual => two(alloc, &Compared { comparison: NotEqual }, len, a, b),
+        Op::NotEqual => two(
+            alloc,
+            &Compared {
+                comparison: NotEqual,
+            },
+            len,
+            a,
+            b,
+        ),
         Op::Less => two(alloc, &Compared { comparison: Less }, len, a, b),
-        Op::LessEqual => two(alloc, &Compared { comparison: LessEqual }, len, a, b),
-        Op::Greater => two(alloc, &Compared { comparison: Greater }, len, a, b),
-        Op::GreaterEqual => two(alloc, &Compared { comparison: GreaterEqual }, len, a, b),
+        Op::LessEqual => two(
+            alloc,
+            &Compared {
+                comparison: LessEqual,
+            },
+            len,
+            a,
+            b,
+        ),
+        Op::Greater => two(
+            alloc,
+            &Compared {
+                comparison: Greater,
+            },
+            len,
+            a,
+            b,
+        ),
+        Op::GreaterEqual => two(
+            alloc,
+            &Compared {
+                comparison: GreaterEqual,
+            },
+            len,
+            a,
+            b,
+        ),
         Op::And => two(alloc, &Compared { comparison: And }, len, a, b),
         Op::Or => two(alloc, &Compared { comparison: Or }, len, a, b),
         Op::Xor => two(alloc, &Compared { comparison: Xor }, len, a, b),
@@ -67,11 +120,8 @@ fn plain(
         Op::IfElse => three(alloc, &IfElse, len, a, b, c),
         Op::Cover => two(alloc, &Cover, len, a, b),
         Op::Defined => one(alloc, &Defined, len, a),
-        Op::ToBoolean
-        | Op::ToNominal
-        | Op::ToOrdinal
-        | Op::ToScalar
-        | Op::ToDirectional => unreachable!(),
+        Op::ToBoolean | Op::ToNominal | Op::ToOrdinal | Op::ToScalar | Op::ToDirectional =>
+            unreachable!(),
     }
 }
 
