@@ -7,7 +7,7 @@ use Rattle.std.proofs.lemmas.List.FromFn.{length-map-range_with_len, get_or-map-
 use Rattle.std.proofs.Math.Nat.{mul_comm}
 use Rattle.tile_map.specs.declared.rect.Rect.{Rect}
 use Rattle.tile_map.specs.Rects.{HasCells, HoldsPlace, IsInMap, cell_count, grown, number_in, place_in, places_of}
-use Rattle.tile_map.specs.Laws.{AscendsOver, HoldWhatIsNear, IsPlaceOf, ListTheirPlaces}
+use Rattle.tile_map.specs.Laws.{AscendsOver, HoldWhatIsNear, IsHeldPlace, ListTheirPlaces}
 
 -- a rectangle that has a cell has columns
 pub some_cols : (r : Rect) (i : ℕ) → i < cell_count r → 0 < r.cols
@@ -145,7 +145,7 @@ places_ascend cols r i j right less below =
     ]
 
 -- a rectangle lists just its places, in ascending order
-pub ascends_over_places : (rows cols : ℕ) (r : Rect) → IsInMap rows cols r → AscendsOver (places_of cols r) (IsPlaceOf rows cols r)
+pub ascends_over_places : (rows cols : ℕ) (r : Rect) → IsInMap rows cols r → AscendsOver (places_of cols r) (IsHeldPlace rows cols r)
 ascends_over_places rows cols r in_map = record {
   ascends = λ i j less below.
       let b : j < cell_count r = subst (λ (n : ℕ). j < n) (length-places_of cols r) below in
@@ -155,7 +155,7 @@ ascends_over_places rows cols r in_map = record {
       omega arith;
   only = λ i below.
       let b : i < cell_count r = subst (λ (n : ℕ). i < n) (length-places_of cols r) below in
-      subst (IsPlaceOf rows cols r) (sym (get_or-places_of cols r i 0 b)) (place_below rows cols r i in_map b, holds_cell cols r i in_map.right b);
+      subst (IsHeldPlace rows cols r) (sym (get_or-places_of cols r i 0 b)) (place_below rows cols r i in_map b, holds_cell cols r i in_map.right b);
   each = λ place is.
       let n = number_in cols r place in
       let b : n < cell_count r = number_below cols r place is.1 in

@@ -19,8 +19,8 @@ pub record AscendsOver (items : List ℕ) (IsItem : ℕ → Type 0) : Type 0 whe
   pub each : (item : ℕ) → IsItem item → Contains items item
 
 -- a place of the map that the rectangle holds
-abbrev pub IsPlaceOf : ℕ → ℕ → Rect → ℕ → Type 0
-IsPlaceOf rows cols r place = (place < rows * cols) × HoldsPlace cols r place
+abbrev pub IsHeldPlace : ℕ → ℕ → Rect → ℕ → Type 0
+IsHeldPlace rows cols r place = (place < rows * cols) × HoldsPlace cols r place
 
 -- a place stands in the list of a rectangle's places under its number
 pub record StandsAt (cols : ℕ) (r : Rect) (place number : ℕ) : Type 0 where
@@ -32,7 +32,7 @@ abbrev pub ListTheirPlaces : Type 0
 ListTheirPlaces =
     (rows cols : ℕ) (r : Rect) → IsInMap rows cols r →
     (length (places_of cols r) ≡ cell_count r)
-    × AscendsOver (places_of cols r) (IsPlaceOf rows cols r)
+    × AscendsOver (places_of cols r) (IsHeldPlace rows cols r)
     × ((place : ℕ) → HoldsPlace cols r place → StandsAt cols r place (number_in cols r place))
 
 -- a grown rectangle holds just the cells of the map that are near to it

@@ -1,6 +1,5 @@
 -- What an operation gives over some places: a cell or Over at each.
 use Rattle.std.specs.Prelude.{◌≡◌, ℕ, zero, suc, ◌<◌, List, [], ◌∷◌, ◌++◌, length, Option, Some, None, Result, Ok, Err, IsOk, IsErr}
-use Rattle.std.specs.List.{range_with_len}
 use Rattle.cell_values.specs.declared.cell.Cell.{Cell}
 use Rattle.cell_values.specs.declared.cell.Cell.TheVariants.{Mv}
 use Rattle.cell_values.specs.declared.cell.Over.{Over}
