@@ -31,14 +31,6 @@ map-range-append f a b n m k e d =
     ∙ (sym (map-append f (range_with_len a n) (range_with_len (a + n) m))
     ∙ (ap (map f) (sym (range-append a n m)) ∙ ap (λ (s : ℕ). map f (range_with_len a s)) d))
 
--- two functions that agree over rows of numbers
-pub map-range_same : {A : Type 0} (f h : ℕ → A) (a b n : ℕ) → ((k : ℕ) → k < n → f (a + k) ≡ h (b + k)) → map f (range_with_len a n) ≡ map h (range_with_len b n)
-map-range_same f h a b n same =
-    same_lists (map f (range_with_len a n)) (map h (range_with_len b n)) (length-map-range_with_len f a n ∙ sym (length-map-range_with_len h b n))
-    (λ k d below.
-    let less : k < n = subst (λ (m : ℕ). k < m) (length-map-range_with_len f a n) below in
-    get_or-map-range_with_len f a n k (a + k) d less refl ∙ (same k less ∙ sym (get_or-map-range_with_len h b n k (b + k) d less refl)))
-
 -- a part of a list, item by item
 pub between-map_range : (cells : List Cell) (a n : ℕ) → a + n ≤ length cells → slice_range cells a (a + n) ≡ map (cell_at cells) (range_with_len a n)
 between-map_range cells a n fits =

@@ -1,12 +1,11 @@
 -- Pasting over a map.
-use Rattle.std.proofs.Common.{◌≡◌, ℕ, zero, suc, ◌+◌, ◌-◌, ◌*◌, ◌/◌, ◌%◌, ◌<◌, ◌≤◌, List, [], ◌∷◌, ◌++◌, length, get_or, map, take, drop, slice_range, refl, sym, ap, subst, ◌∙◌, arith, inl, inr}
+use Rattle.std.proofs.Common.{◌≡◌, ℕ, zero, suc, ◌+◌, ◌-◌, ◌*◌, ◌/◌, ◌%◌, ◌<◌, ◌≤◌, List, [], ◌∷◌, ◌++◌, length, map, take, drop, slice_range, refl, sym, ap, subst, ◌∙◌, arith, inl, inr}
 use Rattle.std.specs.Prelude.{◌⊎◌}
 use Rattle.std.specs.List.{range_with_len, Contains}
 use Rattle.std.proofs.lemmas.Bool.{cases_eq, cases_lt}
 use Rattle.std.proofs.lemmas.Nat.{div-mul-add, mod-mul-add, mod_below, div_below, mul-le}
-use Rattle.std.proofs.lemmas.List.{same_lists, length-append, length-take-le, length-drop, get_or_append_left, get_or-append_right, get_or-take, get_or-drop, take-append-drop, take-take, get_or_default, length-map, get_or-map, take_all}
+use Rattle.std.proofs.lemmas.List.{places, same_lists, take-append-drop, take-take, get_or_default, take_all}
 use Rattle.std.proofs.lemmas.List.Edits.{length-between}
-use Rattle.std.proofs.lemmas.List.FromFn.{length-map-range_with_len, get_or-map-range_with_len}
 use Rattle.std.proofs.lemmas.Slice.{between-put_mid, between_is}
 use borrow.Rule.Slice.PartMut.{put_mid}
 use Rattle.cell_values.specs.declared.cell.Cell.{Cell}
@@ -20,29 +19,18 @@ use Rattle.tile_map.specs.Pastes.{IsPasted, IsPastedOver, SameOutside}
 use Rattle.tile_map.specs.Laws.{PasteTheMap}
 use Rattle.tile_map.proofs.RectLemmas.{some_cols}
 use Rattle.tile_map.proofs.TileLemmas.{tile_below, tile_holds, tile_only}
-use Rattle.tile_map.proofs.CutLemmas.{between-map_range, cell_at-cut_of, front_rows, front_rows_more}
+use Rattle.tile_map.proofs.CutLemmas.{between-map_range, cell_at-cut_of, front_rows, front_rows_more, over_same}
 
 -- ---- a row that is written over a list
 
 put_length : (a k : ℕ) (xs ys : List Cell) → a + k ≤ length xs → length ys ≡ k → length (put_mid a k xs ys) ≡ length xs
-put_length a k xs ys fits full =
-    length-append (take a xs) (ys ++ drop k (drop a xs))
-    ∙ (ap (λ (n : ℕ). n + length (ys ++ drop k (drop a xs))) (length-take-le a xs (omega arith))
-    ∙ (ap (λ (n : ℕ). a + n) (length-append ys (drop k (drop a xs)))
-    ∙ (let b = length-drop k (drop a xs) in let c = length-drop a xs in omega arith)))
+put_length a k xs ys fits full = grind (arith, places)
 
 put_below : (a k : ℕ) (xs ys : List Cell) (i : ℕ) → a ≤ length xs → i < a → cell_at (put_mid a k xs ys) i ≡ cell_at xs i
-put_below a k xs ys i fits less =
-    get_or_append_left (take a xs) (ys ++ drop k (drop a xs)) Mv i (let l = length-take-le a xs fits in omega arith)
-    ∙ get_or-take a xs i Mv less
+put_below a k xs ys i fits less = grind (arith, places)
 
 put_above : (a k : ℕ) (xs ys : List Cell) (i : ℕ) → a ≤ length xs → length ys ≡ k → a + k ≤ i → cell_at (put_mid a k xs ys) i ≡ cell_at xs i
-put_above a k xs ys i fits full above =
-    get_or-append_right (take a xs) (ys ++ drop k (drop a xs)) a i Mv (length-take-le a xs fits) (omega arith)
-    ∙ (get_or-append_right ys (drop k (drop a xs)) k (i - a) Mv full (omega arith)
-    ∙ (get_or-drop k (drop a xs) (i - a - k) Mv
-    ∙ (get_or-drop a xs (k + (i - a - k)) Mv
-    ∙ ap (cell_at xs) (omega arith))))
+put_above a k xs ys i fits full above = grind (arith, places)
 
 -- ---- a rectangle, row by row
 
@@ -68,23 +56,9 @@ place_before cols r n i right below =
 
 -- two lists that agree before a row have the same cells in the rows before
 front_same : (cols : ℕ) (r : Rect) (xs ys : List Cell) (n : ℕ) → r.left + r.cols ≤ cols → ((i : ℕ) → i < (r.top + n) * cols + r.left → cell_at xs i ≡ cell_at ys i) → front_rows cols r (cell_at xs) n ≡ front_rows cols r (cell_at ys) n
+unfolding places_of place_in
 front_same cols r xs ys n right same =
-    same_over (λ i below. same (place_in cols r i) (place_before cols r n i right below))
-  where
-    len : (zs : List Cell) → length (front_rows cols r (cell_at zs) n) ≡ n * r.cols
-    len zs = length-map (map (place_in cols r) (range_with_len 0 (n * r.cols))) (cell_at zs) ∙ length-map-range_with_len (place_in cols r) 0 (n * r.cols)
-
-    item : (zs : List Cell) (k : ℕ) (d : Cell) → k < n * r.cols → get_or (front_rows cols r (cell_at zs) n) k d ≡ cell_at zs (place_in cols r k)
-    item zs k d b =
-        get_or-map (cell_at zs) (map (place_in cols r) (range_with_len 0 (n * r.cols))) k 0 d (subst (λ (m : ℕ). k < m) (sym (length-map-range_with_len (place_in cols r) 0 (n * r.cols))) b)
-        ∙ ap (cell_at zs) (get_or-map-range_with_len (place_in cols r) 0 (n * r.cols) k k 0 b (omega arith))
-
-    same_over : ((i : ℕ) → i < n * r.cols → cell_at xs (place_in cols r i) ≡ cell_at ys (place_in cols r i)) → front_rows cols r (cell_at xs) n ≡ front_rows cols r (cell_at ys) n
-    same_over each =
-        same_lists (front_rows cols r (cell_at xs) n) (front_rows cols r (cell_at ys) n) (len xs ∙ sym (len ys))
-        (λ k d below.
-        let b : k < n * r.cols = subst (λ (m : ℕ). k < m) (len xs) below in
-        item xs k d b ∙ (each k b ∙ sym (item ys k d b)))
+    over_same cols (front r n) (cell_at xs) (cell_at ys) (λ i below. same (place_in cols r i) (place_before cols r n i right below))
 
 -- one more piece of a list
 take_more_piece : (xs : List Cell) (a b : ℕ) → take a xs ++ slice_range xs a (a + b) ≡ take (a + b) xs

@@ -6,7 +6,7 @@ use Rattle.std.proofs.lemmas.Nat.{div-add-mod', div-mul-add, mod-mul-add, mod_be
 use Rattle.std.proofs.lemmas.List.FromFn.{length-map-range_with_len, get_or-map-range_with_len}
 use Rattle.std.proofs.Math.Nat.{mul_comm}
 use Rattle.tile_map.specs.declared.rect.Rect.{Rect}
-use Rattle.tile_map.specs.Rects.{HasCells, HoldsPlace, IsInMap, cell_count, grown, number_in, place_in, places_of}
+use Rattle.tile_map.specs.Rects.{HoldsPlace, IsInMap, cell_count, grown, number_in, place_in, places_of}
 use Rattle.tile_map.specs.Laws.{AscendsOver, HoldWhatIsNear, IsHeldPlace, ListTheirPlaces}
 
 -- a rectangle that has a cell has columns
@@ -202,17 +202,3 @@ holds_what_is_near rows cols k r in_map some row col = (
       let b = grown_side cols k r.left r.cols col near.2.near_col h.from_left h.before_right near.2.left near.2.right near.1 in
       record { from_top = a.0; above_bottom = a.1; from_left = b.0; before_right = b.1 }),
 )
-
--- a grown rectangle lies in the map
-pub grown_inside : (rows cols k : ℕ) (r : Rect) → IsInMap rows cols r → IsInMap rows cols (grown rows cols k r)
-unfolding grown
-grown_inside rows cols k r in_map = let a = in_map.below in let b = in_map.right in record { below = omega arith; right = omega arith }
-
-pub grown_some : (rows cols k : ℕ) (r : Rect) → IsInMap rows cols r → HasCells r → HasCells (grown rows cols k r)
-unfolding grown
-grown_some rows cols k r in_map some =
-    let a = in_map.below in
-    let b = in_map.right in
-    let c = some.some_rows in
-    let d = some.some_cols in
-    record { some_rows = omega arith; some_cols = omega arith }
