@@ -1,0 +1,11 @@
+pub mod Prefix
+pub mod ColumnLaws
+pub mod ColumnLists
+pub mod KeySteps
+pub mod KeyLaws
+pub mod IntervalLaws
+pub mod RowLaws
+pub mod Laws
+pub mod RowSteps
+pub mod Search
+pub mod Values

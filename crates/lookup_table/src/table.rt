@@ -1,0 +1,167 @@
+//! Lookup tables.
+
+ghost use Rattle.std.specs.Prelude.{◌≡◌, ◌≤◌, true, [], ◌∷◌, length};
+ghost use Rattle.std.specs.List.{find};
+ghost use Rattle.std.specs.Option.{option_copied};
+ghost use Rattle.lookup_table.specs.Keys.{all_lie_in, lies_in};
+ghost use Rattle.lookup_table.specs.inside.Steps.{Begun, rows_are_apart, begins_behind, cell_found, row_view};
+
+use crate::row::Row;
+use cell_values::{Cell, Kind};
+use std::marker::Model;
+
+/// A lookup table: lines of one to four key columns and a result. Contracts see how many keys it has,
+/// the kind of its results, and its lines in order.
+#[derive(Debug, Drop)]
+pub struct Table {
+    keys: u32,
+    kind: Kind,
+    rows: Vec<Row>,
+    // Whether there is one key, and the ranges of the rows stand apart in ascending order.
+    ascending: bool,
+}
+
+impl Model for Table {
+    ghost use Rattle.lookup_table.specs.Form.{TableValue};
+
+    ghost Value = { TableValue };
+
+    ghost use Rattle.lookup_table.specs.inside.Steps.{IsKept, table_view};
+
+    ghost view = { λ t. table_view t.keys t.kind t.rows.items };
+
+    ghost invariant = { λ t. IsKept t.keys t.kind t.rows.items t.ascending };
+}
+
+// Whether the row's first key begins before that of the next one, if there is one.
+fn begins_behind(row: &Row, rows: &[Row]) -> bool
+    ensures { result ≡ begins_behind row.now rows.now }
+{
+    match rows.first() {
+        Some(next) => row.a.last < next.a.first,
+        None => true,
+    }
+}
+
+// Whether the ranges of the rows' first keys stand apart in ascending order, and none is empty.
+fn rows_are_apart(rows: &[Row]) -> bool
+    ensures { result ≡ rows_are_apart rows.now }
+{
+    let mut rest = rows;
+    while let Some((row, more)) = rest.split_first() {
+        if row.a.last < row.a.first {
+            return false;
+        }
+        if !begins_behind(row, more) {
+            return false;
+        }
+        rest = more;
+    }
+    true
+}
+
+// How many rows begin at a number or before it.
+fn count_begun(rows: &[Row], number: i64) -> usize
+    requires { rows_are_apart rows.now ≡ true }
+    ensures within { result ≤ length rows.now }
+    ensures point { Begun rows.now number result }
+{
+    rows.partition_point(|row| row.a.first <= number)
+}
+
+// The one row whose first key takes in the number, by halving.
+fn find_apart(rows: &[Row], number: i64) -> Option<&Row>
+    requires { rows_are_apart rows.now ≡ true }
+    ensures { option_copied result ≡ find (λ row. lies_in row.a number) rows.now }
+{
+    let begun = count_begun(rows, number);
+    if begun == 0 {
+        return None;
+    }
+    let last = &rows[begun - 1];
+    if !last.a.has(number) {
+        return None;
+    }
+    Some(last)
+}
+
+// The first row whose keys take in the numbers.
+fn find_first(rows: &[Row], keys: u32, a: i64, b: i64, c: i64, d: i64) -> Option<&Row>
+    requires some { 1 ≤ keys }
+    requires few { keys ≤ 4 }
+    ensures { option_copied result ≡ find (λ row. all_lie_in (row_view keys row).keys (a ∷ b ∷ c ∷ d ∷ [])) rows.now }
+{
+    rows.iter().find(|row| row.fits(keys, a, b, c, d))
+}
+
+// The first row whose keys take in the numbers, by halving where that can be.
+fn find_row(
+    rows: &[Row],
+    keys: u32,
+    ascending: bool,
+    a: i64,
+    b: i64,
+    c: i64,
+    d: i64,
+) -> Option<&Row>
+    requires some { 1 ≤ keys }
+    requires few { keys ≤ 4 }
+    requires one { ascending ≡ true → keys ≡ 1 }
+    requires apart { ascending ≡ true → rows_are_apart rows.now ≡ true }
+    ensures { option_copied result ≡ find (λ row. all_lie_in (row_view keys row).keys (a ∷ b ∷ c ∷ d ∷ [])) rows.now }
+{
+    if ascending {
+        return find_apart(rows, a);
+    }
+    find_first(rows, keys, a, b, c, d)
+}
+
+// The cell of the result of a row.
+fn cell_of(found: Option<&Row>) -> Cell
+    ensures { result ≡ cell_found (option_copied found.entry) }
+{
+    match found {
+        Some(row) => Cell::Val(row.result),
+        None => Cell::Mv,
+    }
+}
+
+impl Table {
+    ghost use Rattle.std.specs.Prelude.{◌≡◌, ◌↔◌, ◌≤◌, false, [], ◌∷◌};
+    ghost use Rattle.std.specs.List.{All, list_any};
+    ghost use Rattle.cell_values.specs.declared.cell.Cell.TheVariants.{Mv};
+    ghost use Rattle.cell_values.specs.Kinds.{IsCell, IsValue};
+    ghost use Rattle.lookup_table.specs.Keys.{all_lie_in};
+    ghost use Rattle.lookup_table.specs.Form.{value_of};
+    ghost use Rattle.lookup_table.specs.inside.Steps.{table_view};
+
+    /// The table of these rows. Notes whether it can be searched by halving.
+    pub fn of_rows(keys: u32, kind: Kind, rows: Vec<Row>) -> Table
+        requires some { 1 ≤ keys }
+        requires few { keys ≤ 4 }
+        requires values { All (λ row. IsValue kind row.result) rows.items }
+        ensures { result ≡ table_view keys kind rows.items }
+    {
+        let ascending = keys == 1 && rows_are_apart(rows.as_slice());
+        Table {
+            keys,
+            kind,
+            rows,
+            ascending,
+        }
+    }
+
+    /// The value of the table at these numbers, in millionths: the result of the first line whose key
+    /// columns all take in the number at their place, and `Mv` exactly where there is no such line. As
+    /// many numbers count as the table has keys. A table of one key whose columns stand apart in
+    /// ascending order, plain numbers or intervals, is searched by halving; any other one is gone
+    /// through line by line up to the first that fits.
+    pub fn find(&self, a: i64, b: i64, c: i64, d: i64) -> Cell
+        ensures value { result ≡ value_of self.now (a ∷ b ∷ c ∷ d ∷ []) }
+        ensures missing { (result ≡ Mv) ↔ (list_any (λ row. all_lie_in row.keys (a ∷ b ∷ c ∷ d ∷ [])) self.now.rows ≡ false) }
+        ensures cell { IsCell self.now.kind result }
+    {
+        let rows = self.rows.as_slice();
+        cell_of(find_row(rows, self.keys, self.ascending, a, b, c, d))
+    }
+}
