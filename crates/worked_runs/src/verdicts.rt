@@ -36,7 +36,8 @@ fn expect_refused(
 
 #[test]
 fn refuses_by_name_and_place(rt: HostRuntime) -> Result<(), Fail> {
-    let over = "overflow step 0 statement 1 operation 1 row 1 col 2\n";
+    let over = "overflow step 0 statement 1 operation 1 row \
+                1 col 2\n";
     for (files, answer, line) in [
         ([TURNED, ONE_TWO, THREE_FOUR], 11, "unbuilt m.mod\n"),
         (
