@@ -2,7 +2,7 @@
 use Rattle.std.proofs.Common.{◌⊎◌, inl, inr, ◌≡◌, refl, sym, ap, subst, ◌∙◌}
 use Rattle.std.specs.Prelude.{None}
 use Rattle.outside_io.specs.State.{WroteFront, Wrote}
-use Rattle.outside_io.specs.Causes.{Outcome, CameTo, CutOff, ReadFault, WriteFault, NoMemory}
+use Rattle.outside_io.specs.Causes.{RunOutcome, CameTo, CutOff, ReadFault, WriteFault, NoMemory}
 use Rattle.outside_io.specs.Met.{Follows}
 use Rattle.outside_io.proofs.Callers.{if_told, meets_forgotten}
 use Rattle.lue_run.specs.declared.ended.Ended.{Ended}
@@ -11,7 +11,7 @@ use Rattle.lue_run.specs.Words.{command_of}
 use Rattle.lue_run.specs.Ends.{CourseEnd, Usage, OfScript, Done, Missing, TooLong, Unbuilt, Input, Overflow, why_of, end_answer, answer_for}
 use Rattle.lue_run.specs.Lines.{line_of, status_of}
 use Rattle.lue_run.specs.Course.{course}
-use Rattle.lue_run.specs.Answers.{Call, CameOut, HasLine, IsComplete, IsRefused, IsShown, IsVerdict, IsVerdictKind, IsVerdictOver, IsWritten, KeepsCounts, NoFault}
+use Rattle.lue_run.specs.Answers.{Call, CameOut, HasLine, IsComplete, IsUsage, IsShown, IsVerdict, IsVerdictKind, IsVerdictOver, LineIsWritten, KeepsCounts, NoFault}
 use Rattle.lue_run.specs.inside.Top.{AnswersSo, Tells}
 
 -- ---- by how the run of the call came out
@@ -22,13 +22,13 @@ module _ (call : Call) where
   verdict_at end m = if_told call.before.holds (λ files. Follows (course call.words files) files call.before call.after (CameTo end)) (IsVerdictOver call (end_answer end))
       (λ files f. record { answer = ap end_answer f.0; puts = f.1.puts; holds = f.1.holds }) m.follows
 
-  verdict_of : (outcome : Outcome CourseEnd) → CameOut call outcome → IsVerdictKind (answer_for outcome) → IsVerdict call (answer_for outcome)
+  verdict_of : (outcome : RunOutcome CourseEnd) → CameOut call outcome → IsVerdictKind (answer_for outcome) → IsVerdict call (answer_for outcome)
   verdict_of (CameTo end) m kind = verdict_at end m
   verdict_of (CutOff (ReadFault name)) m kind = absurd kind
   verdict_of (CutOff (WriteFault name)) m kind = absurd kind
   verdict_of (CutOff NoMemory) m kind = absurd kind
 
-  shown_of : (outcome : Outcome CourseEnd) → (answer_for outcome ≡ top.Usage → command_of call.words ≡ None) → CameOut call outcome → IsShown call (answer_for outcome)
+  shown_of : (outcome : RunOutcome CourseEnd) → (answer_for outcome ≡ top.Usage → command_of call.words ≡ None) → CameOut call outcome → IsShown call (answer_for outcome)
   shown_of (CameTo Usage) usage m = usage refl
   shown_of (CameTo (OfScript (Done files steps))) usage m = tt
   shown_of (CameTo (OfScript (Missing name))) usage m = m.cause
@@ -40,13 +40,13 @@ module _ (call : Call) where
   shown_of (CutOff (WriteFault name)) usage m = m
   shown_of (CutOff NoMemory) usage m = m
 
-  complete_of : NoFault call → (outcome : Outcome CourseEnd) → CameOut call outcome → Wrote call.sink_before call.sink_after (line_of (answer_for outcome)) → IsComplete call (answer_for outcome)
+  complete_of : NoFault call → (outcome : RunOutcome CourseEnd) → CameOut call outcome → Wrote call.sink_before call.sink_after (line_of (answer_for outcome)) → IsComplete call (answer_for outcome)
   complete_of none (CameTo end) m w = inr (verdict_at end m, w)
   complete_of none (CutOff (ReadFault name)) m w = absurd (none.reads m.cause)
   complete_of none (CutOff (WriteFault name)) m w = absurd (none.puts m.cause)
   complete_of none (CutOff NoMemory) m w = inl refl
 
-  written_of : (end : Ended) → Wrote call.sink_before call.sink_after (line_of end) → IsWritten call end
+  written_of : (end : Ended) → Wrote call.sink_before call.sink_after (line_of end) → LineIsWritten call end
   written_of (top.OutFault instead) w = tt
   written_of end w = w
 
@@ -79,13 +79,13 @@ module _ (call : Call) (answer : Ended) (a : AnswersSo call.words call.before ca
         front = subst (λ end. WroteFront call.sink_before call.sink_after (line_of end)) a.comes.is t.2.front;
       })
 
-  pub written_told : IsWritten call answer
+  pub written_told : LineIsWritten call answer
   written_told = by a.tells
     where
-      by : Tells a.end call.sink_before call.sink_after answer → IsWritten call answer
-      by (inl t) = subst (IsWritten call) (sym t.0) (written_of call a.end t.1)
-      by (inr (inl t)) = subst (IsWritten call) (sym t.0) t.1
-      by (inr (inr t)) = subst (IsWritten call) (sym t.1) tt
+      by : Tells a.end call.sink_before call.sink_after answer → LineIsWritten call answer
+      by (inl t) = subst (LineIsWritten call) (sym t.0) (written_of call a.end t.1)
+      by (inr (inl t)) = subst (LineIsWritten call) (sym t.0) t.1
+      by (inr (inr t)) = subst (LineIsWritten call) (sym t.1) tt
 
   pub complete_told : NoFault call → IsComplete call answer
   complete_told none = by a.tells
@@ -96,7 +96,7 @@ module _ (call : Call) (answer : Ended) (a : AnswersSo call.words call.before ca
       by (inr (inl t)) = inl t.0
       by (inr (inr t)) = absurd (none.writes t.2.rose)
 
-  pub refused_told : command_of call.words ≡ None → IsRefused call answer
+  pub refused_told : command_of call.words ≡ None → IsUsage call answer
   refused_told none = record { untouched = a.comes.untouched none; said = by a.tells }
     where
       usage : a.end ≡ top.Usage

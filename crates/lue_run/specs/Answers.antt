@@ -1,7 +1,7 @@
 -- What a call of the program answers, and why.
 use Rattle.std.specs.Prelude.{◌≡◌, ◌≤◌, ◌⊎◌, List, ℕ, None, Some, IfSome, ⊤}
 use Rattle.outside_io.specs.State.{Files, FolderState, SinkState, NoCountFell, Rose, Wrote, WroteFront}
-use Rattle.outside_io.specs.Causes.{ReadFault, WriteFault, NoMemory, Outcome, CutOff}
+use Rattle.outside_io.specs.Causes.{ReadFault, WriteFault, NoMemory, RunOutcome, CutOff}
 use Rattle.outside_io.specs.Events.{applied}
 use Rattle.outside_io.specs.Met.{PutsGrew, Meets}
 use Rattle.lue_run.specs.declared.ended.Ended.{Ended}
@@ -30,7 +30,7 @@ call_of words before after sink_before sink_after = record {
 }
 
 -- the run of the call came out so
-abbrev pub CameOut : Call → Outcome CourseEnd → Type 0
+abbrev pub CameOut : Call → RunOutcome CourseEnd → Type 0
 CameOut call outcome = Meets why_of (course call.words) call.before call.after outcome
 
 -- ---- the verdict
@@ -64,7 +64,7 @@ HasLine other = ⊤
 
 -- The call came out with an answer that has a line, whose status is told instead; the sink failed, and got a front of it.
 pub record CouldNotWrite (call : Call) (instead : ℕ) : Type 0 where
-  pub outcome : Outcome CourseEnd
+  pub outcome : RunOutcome CourseEnd
   pub came : CameOut call outcome
   pub has_line : HasLine (answer_for outcome)
   pub status : instead ≡ status_of (answer_for outcome)
@@ -84,16 +84,16 @@ IsShown call Memory = CameOut call (CutOff NoMemory)
 IsShown call other = ⊤
 
 -- words that are no command touch nothing, and that is said
-pub record IsRefused (call : Call) (answer : Ended) : Type 0 where
+pub record IsUsage (call : Call) (answer : Ended) : Type 0 where
   pub untouched : call.after ≡ call.before
   pub said : (answer ≡ Usage) ⊎ (answer ≡ OutFault (status_of Usage)) ⊎ (answer ≡ Memory)
 
 -- ---- the line
 
 -- The sink got the line of the answer and nothing else; none for want of memory. After a failed write the cause says what.
-abbrev pub IsWritten : Call → Ended → Type 0
-IsWritten call (OutFault instead) = ⊤
-IsWritten call answer = Wrote call.sink_before call.sink_after (line_of answer)
+abbrev pub LineIsWritten : Call → Ended → Type 0
+LineIsWritten call (OutFault instead) = ⊤
+LineIsWritten call answer = Wrote call.sink_before call.sink_after (line_of answer)
 
 -- ---- where nothing failed
 

@@ -1,6 +1,7 @@
 -- How a run ends, and the answer of a call for it.
 use Rattle.std.specs.Prelude.{List, ℕ, Ok, Err, Result}
-use Rattle.outside_io.specs.Causes.{Fault, ReadFault, WriteFault, NoMemory, Outcome, CameTo, CutOff, Why, ByContents, ByAbsence, ByLength}
+use Rattle.outside_io.specs.Causes.{Fault, ReadFault, WriteFault, NoMemory, RunOutcome, CameTo, CutOff}
+use Rattle.outside_io.specs.Causes.{Why, ByContents, ByAbsence, ByLength}
 use Rattle.lue_run.specs.declared.ended.InputKind.{InputKind}
 use Rattle.lue_run.specs.declared.ended.SessionEnd.{SessionEnd}
 use Rattle.lue_run.specs.declared.ended.SessionEnd.TheVariants as session
@@ -30,12 +31,12 @@ why (Input name kind) = ByContents
 why (Overflow at) = ByContents
 
 -- the end of a script, by what came out of its parts
-abbrev pub end_of : Result Tally ScriptEnd → ScriptEnd
-end_of (Ok tally) = Done tally.files tally.steps
-end_of (Err end) = end
+abbrev pub script_end : Result Tally ScriptEnd → ScriptEnd
+script_end (Ok tally) = Done tally.files tally.steps
+script_end (Err end) = end
 
 -- how the run of a script came out that is answered so
-abbrev pub outcome_of : SessionEnd → Outcome ScriptEnd
+abbrev pub outcome_of : SessionEnd → RunOutcome ScriptEnd
 outcome_of (session.Done files steps) = CameTo (Done files steps)
 outcome_of (session.Missing name) = CameTo (Missing name)
 outcome_of (session.TooLong name) = CameTo (TooLong name)
@@ -79,6 +80,6 @@ fault_answer (WriteFault name) = top.FolderWriteFault name
 fault_answer NoMemory = top.Memory
 
 -- the answer for how a call came out, before its line is written
-abbrev pub answer_for : Outcome CourseEnd → Ended
+abbrev pub answer_for : RunOutcome CourseEnd → Ended
 answer_for (CameTo end) = end_answer end
 answer_for (CutOff fault) = fault_answer fault

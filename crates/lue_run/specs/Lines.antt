@@ -5,7 +5,8 @@ use Rattle.grid_text.specs.declared.fault.GridKind.TheVariants as kinds
 use Rattle.lue_run.specs.declared.ended.InputKind.{InputKind}
 use Rattle.lue_run.specs.declared.ended.InputKind.TheVariants.{Grid, Size}
 use Rattle.lue_run.specs.declared.ended.Ended.{Ended}
-use Rattle.lue_run.specs.declared.ended.Ended.TheVariants.{Done, Usage, Missing, TooLong, Unbuilt, Input, Overflow, FolderReadFault, FolderWriteFault, OutFault, Memory}
+use Rattle.lue_run.specs.declared.ended.Ended.TheVariants.{Done, Usage, Missing, TooLong, Unbuilt, Input, Overflow}
+use Rattle.lue_run.specs.declared.ended.Ended.TheVariants.{FolderReadFault, FolderWriteFault, OutFault, Memory}
 use Rattle.lue_run.specs.declared.ended.OverAt.{OverAt}
 
 -- a line of a text and a name
@@ -21,7 +22,8 @@ grid_word kinds.Count = codes "count"
 
 -- the line of an input that is not as it is to be
 abbrev pub input_line : List ℕ → InputKind → List ℕ
-input_line name (Grid fault) = codes "input " ++ name ++ codes " grid " ++ grid_word fault.kind ++ codes " " ++ decimal fault.at ++ codes "\n"
+input_line name (Grid fault) =
+    codes "input " ++ name ++ codes " grid " ++ grid_word fault.kind ++ codes " " ++ decimal fault.at ++ codes "\n"
 input_line name (Size rows cols) = codes "input " ++ name ++ codes " size " ++ decimal rows ++ codes " " ++ decimal cols ++ codes "\n"
 
 -- the line of an overflow

@@ -19,7 +19,7 @@ use Rattle.grid_text.specs.Written.{written_grid}
 use Rattle.lue_run.specs.declared.ended.InputKind.TheVariants as inputs
 use Rattle.lue_run.specs.declared.ended.OverAt.{OverAt}
 use Rattle.lue_run.specs.declared.ended.Tally.{Tally}
-use Rattle.lue_run.specs.Ends.{ScriptEnd, Missing, TooLong, Unbuilt, Input, Overflow, end_of}
+use Rattle.lue_run.specs.Ends.{ScriptEnd, Missing, TooLong, Unbuilt, Input, Overflow, script_end}
 use Rattle.lue_run.specs.inside.Sums.{sums_from}
 
 -- what a file's text stands for, or the end where it stands for nothing that is built
@@ -104,4 +104,4 @@ sum_run name = do
 
 -- the run of the script of this name
 abbrev pub script_run : List ℕ → Run ScriptEnd
-script_run name = end_as end_of (sum_run name)
+script_run name = end_as script_end (sum_run name)

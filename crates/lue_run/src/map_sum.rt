@@ -1,7 +1,7 @@
 ghost use Rattle.std.specs.Prelude.{◌≡◌, ℕ, List, length, map, MatchResult, Ok, Err};
 ghost use Rattle.cell_values.specs.declared.cell.Cell.{Cell};
 ghost use Rattle.lue_run.specs.MapSum.{IsFirstOver, sums_at};
-ghost use Rattle.lue_run.specs.inside.Sums.{IsPlaceOf, SumRefused, sums_from};
+ghost use Rattle.lue_run.specs.inside.Sums.{IsPlaceAmong, SumRefused, sums_from};
 
 use cell_values::{Cell, Cells, add};
 use std::alloc::{AllocError, AllocFailed, Global};
@@ -40,7 +40,7 @@ pub fn sum_maps(alloc: Global, first: &[Cell], second: &[Cell]) -> Result<Cells,
     requires { length first.now ≡ length second.now }
     ensures sums { MatchResult result (λ cells. sums_from 0 first.now second.now ≡ Ok cells)
         (SumRefused (sums_from 0 first.now second.now)) }
-    ensures within { MatchResult result (λ cells. length cells ≡ length first.now) (IsPlaceOf (length first.now)) }
+    ensures within { MatchResult result (λ cells. length cells ≡ length first.now) (IsPlaceAmong (length first.now)) }
 {
     let mut sums = Vec::with_capacity(alloc, first.len())?;
     for (place, cell) in first.iter().enumerate() {

@@ -4,7 +4,7 @@ ghost use Rattle.outside_io.specs.Runs.{putting};
 ghost use Rattle.outside_io.specs.Met.{Meets};
 ghost use Rattle.lue_run.specs.Ends.{outcome_of, why};
 ghost use Rattle.lue_run.specs.PlainRun.{grid_run, grid_sum, grids_run, over_at, or_input, or_unbuilt, script_run, sum_files, sum_run, text_run};
-ghost use Rattle.lue_run.specs.inside.Parts.{Gives, Makes};
+ghost use Rattle.lue_run.specs.inside.Parts.{GivesEnd, Makes};
 ghost use Rattle.lue_run.specs.inside.Values.{IsInput, IsSized, IsUnbuilt, files_named};
 ghost use Rattle.cell_values.specs.declared.kind.Kind.TheVariants.{Scalar};
 ghost use Rattle.grid_text.specs.inside.Reading.{grid_of};
@@ -50,7 +50,7 @@ fn sum_files_of(script: &Script) -> Option<SumFiles<'_>>
 // The files of a script by its text.
 fn parse_script(alloc: Global, name: &Word, text: &[u8]) -> Result<Script, SessionEnd>
     requires { length text.now ≤ most_script_bytes }
-    ensures { Gives (or_unbuilt name.now (script_of text.now)) result }
+    ensures { GivesEnd (or_unbuilt name.now (script_of text.now)) result }
 {
     match read_script(alloc, text) {
         Ok(script) => Ok(script),
@@ -82,7 +82,7 @@ fn input(alloc: Global, name: &Word, kind: InputKind) -> SessionEnd
 // The grid of a text.
 fn parse_grid(alloc: Global, name: &Word, text: &[u8]) -> Result<Grid, SessionEnd>
     requires { length text.now ≤ most_text_bytes }
-    ensures settles { Gives (or_input name.now (grid_of Scalar text.now)) result }
+    ensures settles { GivesEnd (or_input name.now (grid_of Scalar text.now)) result }
     ensures sized { IfOk result IsSized }
 {
     match read_grid(alloc, Kind::Scalar, text) {
@@ -148,7 +148,7 @@ fn put_grid<F: Folder>(
 fn sum_grids(alloc: Global, name: &Word, first: &Grid, second: &Grid) -> Result<Cells, SessionEnd>
     requires first { IsSized first.now }
     requires second { IsSized second.now }
-    ensures settles { Gives (grid_sum name.now first.now second.now) result }
+    ensures settles { GivesEnd (grid_sum name.now first.now second.now) result }
     ensures count { IfOk result (λ cells. length cells ≡ length first.now.cells) }
 {
     if first.rows != second.rows || first.cols != second.cols {

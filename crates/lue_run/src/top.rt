@@ -1,6 +1,6 @@
 ghost use Rattle.std.specs.Prelude.{◌≡◌, ◌≤◌, None};
 ghost use Rattle.outside_io.specs.Causes.{outcome_as};
-ghost use Rattle.lue_run.specs.Answers.{HasLine, IsComplete, IsRefused, IsShown, IsVerdict, IsVerdictKind, IsWritten, KeepsCounts, NoFault, call_of};
+ghost use Rattle.lue_run.specs.Answers.{HasLine, IsComplete, IsUsage, IsShown, IsVerdict, IsVerdictKind, LineIsWritten, KeepsCounts, NoFault, call_of};
 ghost use Rattle.lue_run.specs.Ends.{OfScript, answer_for, outcome_of};
 ghost use Rattle.lue_run.specs.Words.{command_of};
 ghost use Rattle.lue_run.specs.inside.Top.{AnswersSo, ComesTo, Tells};
@@ -85,13 +85,13 @@ pub fn lue_plain<F: Folder, S: Sink>(
     // Why each answer comes, and what was put before a fault.
     ensures shown { IsShown (call_of words.now (F.state folder.old) (F.state folder.new) (S.state out.old) (S.state out.new)) result }
     // The line that is written.
-    ensures line { IsWritten (call_of words.now (F.state folder.old) (F.state folder.new) (S.state out.old) (S.state out.new)) result }
+    ensures line { LineIsWritten (call_of words.now (F.state folder.old) (F.state folder.new) (S.state out.old) (S.state out.new)) result }
     // Where no fault of the outside came, the answer is the verdict with its line written, or want of memory.
     ensures complete { NoFault (call_of words.now (F.state folder.old) (F.state folder.new) (S.state out.old) (S.state out.new))
         → IsComplete (call_of words.now (F.state folder.old) (F.state folder.new) (S.state out.old) (S.state out.new)) result }
     // Words that are no command.
     ensures refused { command_of words.now ≡ None
-        → IsRefused (call_of words.now (F.state folder.old) (F.state folder.new) (S.state out.old) (S.state out.new)) result }
+        → IsUsage (call_of words.now (F.state folder.old) (F.state folder.new) (S.state out.old) (S.state out.new)) result }
     // Counts never fall.
     ensures counts { KeepsCounts (call_of words.now (F.state folder.old) (F.state folder.new) (S.state out.old) (S.state out.new)) }
 {

@@ -6,7 +6,7 @@ use Rattle.std.specs.List.{range_with_len}
 use Rattle.outside_io.specs.State.{FolderState}
 use Rattle.outside_io.specs.Events.{Run}
 use Rattle.outside_io.specs.Runs.{settled, ◌>>=◌, in_turn}
-use Rattle.outside_io.specs.Causes.{Outcome, CameTo, CutOff, NoMemory, stopped_by, outcome_by, Why, why_by}
+use Rattle.outside_io.specs.Causes.{RunOutcome, CameTo, CutOff, NoMemory, stopped_by, outcome_by, Why, why_by}
 use Rattle.outside_io.specs.Met.{Meets}
 use Rattle.outside_io.specs.inside.Parts.{Leads}
 use Rattle.outside_io.proofs.MetLemmas.{meets_on, meets_stop, meets_settled, meets_no_memory, read_keeps_all}
@@ -30,12 +30,12 @@ module _ {Y E : Type 0} (why : E → Why) (whole : Run (Result Y E)) (old : Fold
   leads_on run next mid new x l m = record { on = λ end outcome n. l.on end outcome (meets_on why run next mid new end x outcome m n) }
 
   -- the rest ended in its first part
-  pub leads_stop : {X : Type 0} (run : Run (Result X E)) (next : X → Run (Result Y E)) (mid new : FolderState) (outcome : Outcome E) → Leads (why_by why) whole old (run >>= next) mid →
+  pub leads_stop : {X : Type 0} (run : Run (Result X E)) (next : X → Run (Result Y E)) (mid new : FolderState) (outcome : RunOutcome E) → Leads (why_by why) whole old (run >>= next) mid →
       Meets (why_by why) run mid new (stopped_by outcome) → Meets (why_by why) whole old new (stopped_by outcome)
   leads_stop run next mid new outcome l m = l.on new (stopped_by outcome) (meets_stop why run next mid new outcome m)
 
   -- a `?` hands an error on
-  pub meets_out : {D : Type 0} (by : D → Outcome E) (new : FolderState) (result : Result Y D) (d : D) → IsErrAnd result (λ e. e ≡ d) →
+  pub meets_out : {D : Type 0} (by : D → RunOutcome E) (new : FolderState) (result : Result Y D) (d : D) → IsErrAnd result (λ e. e ≡ d) →
       Meets (why_by why) whole old new (stopped_by (by d)) → Meets (why_by why) whole old new (outcome_by by result)
   meets_out by new (Ok x) d is m = absurd is
   meets_out by new (Err e) d is m = subst (λ e. Meets (why_by why) whole old new (stopped_by (by e))) (sym is) m
@@ -65,7 +65,7 @@ module _ {A S E : Type 0} (why : E → Why) (part : S → A → Run (Result S E)
   turn_on rest s mid new a more t is l m = leads_on why whole old (part s a) (λ t. in_turn part t more) mid new t (turned rest s mid a more is l) m
 
   -- the part for one item ended the run
-  pub turn_stop : (rest : List A) (s : S) (mid new : FolderState) (a : A) (more : List A) (outcome : Outcome E) → rest ≡ a ∷ more → Leads (why_by why) whole old (in_turn part s rest) mid →
+  pub turn_stop : (rest : List A) (s : S) (mid new : FolderState) (a : A) (more : List A) (outcome : RunOutcome E) → rest ≡ a ∷ more → Leads (why_by why) whole old (in_turn part s rest) mid →
       Meets (why_by why) (part s a) mid new (stopped_by outcome) → Meets (why_by why) whole old new (stopped_by outcome)
   turn_stop rest s mid new a more outcome is l m = leads_stop why whole old (part s a) (λ t. in_turn part t more) mid new outcome (turned rest s mid a more is l) m
 
@@ -80,7 +80,7 @@ module _ {A S E : Type 0} (why : E → Why) (part : S → A → Run (Result S E)
     item_on new a t below is = turn_on (drop i items) s mid new a (drop (i + 1) items) t (here items i a below is)
 
     -- the part for the item at the loop's index ended the run
-    pub item_stop : (new : FolderState) (a : A) (outcome : Outcome E) → i < length items → a ≡ get_or items i a → Leads (why_by why) whole old (in_turn part s (drop i items)) mid →
+    pub item_stop : (new : FolderState) (a : A) (outcome : RunOutcome E) → i < length items → a ≡ get_or items i a → Leads (why_by why) whole old (in_turn part s (drop i items)) mid →
         Meets (why_by why) (part s a) mid new (stopped_by outcome) → Meets (why_by why) whole old new (stopped_by outcome)
     item_stop new a outcome below is = turn_stop (drop i items) s mid new a (drop (i + 1) items) outcome (here items i a below is)
 

@@ -10,7 +10,7 @@ use Rattle.outside_io.specs.State.{Files, PutPair, FolderState, NoCountFell, Sam
 use Rattle.outside_io.specs.Refusals.{ReadRefused, PutRefused}
 use Rattle.outside_io.specs.Events.{Event, Read, Put, Course, Run, puts_of, applied}
 use Rattle.outside_io.specs.Runs.{settled, within_limit, reading, putting, continued, ◌>>=◌, finished, afterwards, end_as}
-use Rattle.outside_io.specs.Causes.{Fault, ReadFault, WriteFault, NoMemory, Outcome, CameTo, CutOff, outcome_as, stopped_by, Why, ByContents, ByAbsence, ByLength, why_by, RoseBy, RoseFor, HasCause}
+use Rattle.outside_io.specs.Causes.{Fault, ReadFault, WriteFault, NoMemory, RunOutcome, CameTo, CutOff, outcome_as, stopped_by, Why, ByContents, ByAbsence, ByLength, why_by, RoseBy, RoseFor, HasCause}
 use Rattle.outside_io.specs.Met.{PutsGrew, DidAll, HoldsBut, DidUpTo, IsCutAt, Follows, Meets}
 use Rattle.outside_io.specs.inside.Parts.{Settles}
 use Rattle.outside_io.specs.declared.folder.ReadEnd.TheVariants.{Absent, TooLong, Failed}
@@ -30,7 +30,7 @@ rose_for_later old mid new (WriteFault name) l r = omega (arith, l.puts, r)
 rose_for_later old mid new NoMemory l r = tt
 
 -- a count that rose at last rose over all
-cause_later : {X : Type 0} (why : X → Why) (old mid new : FolderState) (outcome : Outcome X) → NoCountFell old mid → HasCause why mid new outcome → HasCause why old new outcome
+cause_later : {X : Type 0} (why : X → Why) (old mid new : FolderState) (outcome : RunOutcome X) → NoCountFell old mid → HasCause why mid new outcome → HasCause why old new outcome
 cause_later why old mid new (CameTo end) l r = rose_by_later old mid new (why end) l r
 cause_later why old mid new (CutOff fault) l r = rose_for_later old mid new fault l r
 
@@ -111,7 +111,7 @@ module _ (files : Files) (old mid new : FolderState) (first : List Event) (d : D
   did_later events n = record { puts = grew_on old mid new first events d.puts n.puts; holds = n.holds ∙ ap Some (applied_on first events files) }
 
   -- a course that began where the first events were done
-  follows_later : {X : Type 0} (course : Course X) (outcome : Outcome X) → Follows course (applied (puts_of first) files) mid new outcome →
+  follows_later : {X : Type 0} (course : Course X) (outcome : RunOutcome X) → Follows course (applied (puts_of first) files) mid new outcome →
       Follows (record { events = first ++ course.events; end = course.end }) files old new outcome
   follows_later course (CameTo end) f = (f.0, did_later course.events f.1)
   follows_later course (CutOff fault) f = cut_later course.events fault f
@@ -130,12 +130,12 @@ abbrev error_of : {X Y E : Type 0} → E → Result X E → Result Y E
 error_of e (Ok x) = Err e
 error_of e (Err d) = Err d
 
-same_cause : (X Y : Type 0) {E : Type 0} (why : E → Why) (old new : FolderState) (outcome : Outcome E) → HasCause (why_by {X = X} why) old new (stopped_by outcome) → HasCause (why_by {X = Y} why) old new (stopped_by outcome)
+same_cause : (X Y : Type 0) {E : Type 0} (why : E → Why) (old new : FolderState) (outcome : RunOutcome E) → HasCause (why_by {X = X} why) old new (stopped_by outcome) → HasCause (why_by {X = Y} why) old new (stopped_by outcome)
 same_cause X Y why old new (CameTo e) c = c
 same_cause X Y why old new (CutOff fault) c = c
 
 module _ {X Y E : Type 0} (why : E → Why) (run : Run (Result X E)) (next : X → Run (Result Y E)) where
-  stopped : (events : List Event) (end : Result X E) (then : X → Course (Result Y E)) (files : Files) (old new : FolderState) (outcome : Outcome E) →
+  stopped : (events : List Event) (end : Result X E) (then : X → Course (Result Y E)) (files : Files) (old new : FolderState) (outcome : RunOutcome E) →
       Follows (record { events = events; end = end }) files old new (stopped_by outcome) → Follows (continued events then end) files old new (stopped_by outcome)
   stopped events (Ok x) then files old new (CameTo e) f = absurd (not_both x e f.0)
   stopped events (Err d) then files old new (CameTo e) f = (ap (error_of e) f.0, f.1)
@@ -143,7 +143,7 @@ module _ {X Y E : Type 0} (why : E → Why) (run : Run (Result X E)) (next : X �
   stopped events (Err d) then files old new (CutOff fault) f = f
 
   -- a call that ends in its first part
-  pub meets_stop : (old new : FolderState) (outcome : Outcome E) → Meets (why_by why) run old new (stopped_by outcome) → Meets (why_by why) (run >>= next) old new (stopped_by outcome)
+  pub meets_stop : (old new : FolderState) (outcome : RunOutcome E) → Meets (why_by why) run old new (stopped_by outcome) → Meets (why_by why) (run >>= next) old new (stopped_by outcome)
   meets_stop old new outcome m = record {
     later = m.later;
     cause = same_cause X Y why old new outcome m.cause;
@@ -151,7 +151,7 @@ module _ {X Y E : Type 0} (why : E → Why) (run : Run (Result X E)) (next : X �
         (λ files f. stopped (run files).events (run files).end (λ x. next x (applied (puts_of (run files).events) files)) files old new outcome f) m.follows;
   }
 
-  went_on : (old mid new : FolderState) (x : X) (outcome : Outcome (Result Y E)) (files : Files) → IfSome mid.holds (λ files. Follows (next x files) files mid new outcome) →
+  went_on : (old mid new : FolderState) (x : X) (outcome : RunOutcome (Result Y E)) (files : Files) → IfSome mid.holds (λ files. Follows (next x files) files mid new outcome) →
       Follows (run files) files old mid (CameTo (Ok x)) → Follows ((run >>= next) files) files old new outcome
   went_on old mid new x outcome files g f =
       let events = (run files).events in
@@ -160,7 +160,7 @@ module _ {X Y E : Type 0} (why : E → Why) (run : Run (Result X E)) (next : X �
       (follows_later files old mid new events f.1 (next x after) outcome (after_told files old mid events (λ files. Follows (next x files) files mid new outcome) f.1 g))
 
   -- a call that goes on after its first part
-  pub meets_on : (old mid new : FolderState) (x : X) (outcome : Outcome (Result Y E)) → Meets (why_by why) run old mid (CameTo (Ok x)) → Meets (why_by why) (next x) mid new outcome → Meets (why_by why) (run >>= next) old new outcome
+  pub meets_on : (old mid new : FolderState) (x : X) (outcome : RunOutcome (Result Y E)) → Meets (why_by why) run old mid (CameTo (Ok x)) → Meets (why_by why) (next x) mid new outcome → Meets (why_by why) (run >>= next) old new outcome
   meets_on old mid new x outcome m n = record {
     later = no_count_fell old mid new m.later n.later;
     cause = cause_later (why_by why) old mid new outcome m.later n.cause;
@@ -181,7 +181,7 @@ did_none old new files k h events none = record {
 
 module _ {X : Type 0} (why : X → Why) where
   -- what needs no file comes to its end
-  pub meets_settled : (end : X) (s : FolderState) (outcome : Outcome X) → Settles why end outcome → Meets why (settled end) s s outcome
+  pub meets_settled : (end : X) (s : FolderState) (outcome : RunOutcome X) → Settles why end outcome → Meets why (settled end) s s outcome
   meets_settled end s (CameTo x) is = record {
     later = none_fell s;
     cause = subst (RoseBy s s) (sym is.1) tt;
@@ -208,14 +208,14 @@ module _ {X : Type 0} (why : X → Why) where
         (λ files h. ([], (run files).events, record { events = refl; puts = grew_by_none old.puts new.puts k.puts; holds = all_held (run files).events files new (k.holds ∙ h) }));
   }
 
-  forgotten : (course : Course X) (files : Files) (old new : FolderState) (outcome : Outcome X) → Follows course files old new outcome → Follows course files old new (CutOff NoMemory)
+  forgotten : (course : Course X) (files : Files) (old new : FolderState) (outcome : RunOutcome X) → Follows course files old new outcome → Follows course files old new (CutOff NoMemory)
   forgotten course files old new (CameTo end) f = (course.events, [], record { events = sym (append-nil course.events); puts = f.1.puts; holds = f.1.holds })
   forgotten course files old new (CutOff (ReadFault name)) f = (f.0, Read name f.2 ∷ f.1, f.3)
   forgotten course files old new (CutOff (WriteFault name)) f = (f.0, Put name f.2 ∷ f.1, f.3)
   forgotten course files old new (CutOff NoMemory) f = f
 
   -- whatever a call did, it may answer want of memory
-  pub meets_forgotten : (run : Run X) (old new : FolderState) (outcome : Outcome X) → Meets why run old new outcome → Meets why run old new (CutOff NoMemory)
+  pub meets_forgotten : (run : Run X) (old new : FolderState) (outcome : RunOutcome X) → Meets why run old new outcome → Meets why run old new (CutOff NoMemory)
   meets_forgotten run old new outcome m = record {
     later = m.later;
     cause = tt;
@@ -300,7 +300,7 @@ module _ {E : Type 0} (why : E → Why) (name bytes : List ℕ) (old new : Folde
 
 module _ {X Y : Type 0} (why : X → Why) (why' : Y → Why) (f : X → Y) (same : (x : X) → why' (f x) ≡ why x) where
   -- the same run, whose end is told by another type
-  pub meets_end_as : (run : Run X) (old new : FolderState) (outcome : Outcome X) → Meets why run old new outcome → Meets why' (end_as f run) old new (outcome_as f outcome)
+  pub meets_end_as : (run : Run X) (old new : FolderState) (outcome : RunOutcome X) → Meets why run old new outcome → Meets why' (end_as f run) old new (outcome_as f outcome)
   meets_end_as run old new (CameTo end) m = record {
     later = m.later;
     cause = subst (RoseBy old new) (sym (same end)) m.cause;
@@ -347,14 +347,14 @@ module _ {X E : Type 0} (why : E → Why) (run : Run (Result X E)) (last : Resul
           let second = last first.end (applied (puts_of first.events) files) in
           subst (λ all. IsCutAt all files old new fault) (sym (more_of first.events second first.end)) (cut_more first.events second.events files old new fault f)
 
-  ended_last : (first : List Event) (second : Course (Result (Unit {0}) E)) (end : Result X E) (files : Files) (old new : FolderState) (outcome : Outcome E) →
+  ended_last : (first : List Event) (second : Course (Result (Unit {0}) E)) (end : Result X E) (files : Files) (old new : FolderState) (outcome : RunOutcome E) →
       Follows (record { events = first ++ second.events; end = second.end }) files old new (stopped_by outcome) → Follows (finished (first ++ second.events) end second.end) files old new (stopped_by outcome)
   ended_last first second end files old new (CameTo e) f =
       subst (λ o. Follows (finished (first ++ second.events) end o) files old new (CameTo (Err e))) f.0 (refl, f.1)
   ended_last first second end files old new (CutOff fault) f = subst (λ all. IsCutAt all files old new fault) (sym (more_of first second end)) f
 
   -- the first part came to its end, and the second ended the whole or was cut off
-  pub meets_last_stop : (old mid new : FolderState) (end : Result X E) (outcome : Outcome E) → Meets (why_by why) run old mid (CameTo end) → Meets (why_by why) (last end) mid new (stopped_by outcome) →
+  pub meets_last_stop : (old mid new : FolderState) (end : Result X E) (outcome : RunOutcome E) → Meets (why_by why) run old mid (CameTo end) → Meets (why_by why) (last end) mid new (stopped_by outcome) →
       Meets (why_by why) (afterwards run last) old new (stopped_by outcome)
   meets_last_stop old mid new end outcome m n = record {
     later = no_count_fell old mid new m.later n.later;
@@ -373,7 +373,7 @@ module _ {X E : Type 0} (why : E → Why) (run : Run (Result X E)) (last : Resul
 -- ---- a read that is not yet a part of the run
 
 -- a read before its turn changes nothing that a run speaks of
-pub meets_after_read : {X : Type 0} (why : X → Why) (run : Run X) (old mid new : FolderState) (outcome : Outcome X) → ReadKeeps old mid → Meets why run mid new outcome → Meets why run old new outcome
+pub meets_after_read : {X : Type 0} (why : X → Why) (run : Run X) (old mid new : FolderState) (outcome : RunOutcome X) → ReadKeeps old mid → Meets why run mid new outcome → Meets why run old new outcome
 meets_after_read {X} why run old mid new outcome k m = record {
   later = no_count_fell old mid new k.later m.later;
   cause = cause_later why old mid new outcome k.later m.cause;
@@ -387,7 +387,7 @@ meets_after_read {X} why run old mid new outcome k m = record {
     up_to : (files : Files) (all done left : List Event) → DidUpTo files mid new all done left → DidUpTo files old new all done left
     up_to files all done left d = record { events = d.events; puts = grew (puts_of done) d.puts; holds = d.holds }
 
-    kept : (course : Course X) (files : Files) (outcome : Outcome X) → Follows course files mid new outcome → Follows course files old new outcome
+    kept : (course : Course X) (files : Files) (outcome : RunOutcome X) → Follows course files mid new outcome → Follows course files old new outcome
     kept course files (CameTo end) f = (f.0, record { puts = grew (puts_of course.events) f.1.puts; holds = f.1.holds })
     kept course files (CutOff (ReadFault name)) f = (f.0, f.1, f.2, up_to files course.events f.0 (Read name f.2 ∷ f.1) f.3)
     kept course files (CutOff (WriteFault name)) f = (f.0, f.1, f.2, up_to files course.events f.0 (Put name f.2 ∷ f.1) f.3)

@@ -31,11 +31,4 @@ untouched = record { holds = Some empty; puts = Some []; read_faults = 0; put_fa
 
 -- the same folder, but that it holds these bytes under the name
 abbrev pub holding : FolderState → List ℕ → List ℕ → FolderState
-holding s name bytes = record {
-  holds = option_map (λ files. insert files name bytes) s.holds;
-  puts = s.puts;
-  read_faults = s.read_faults;
-  put_faults = s.put_faults;
-  absents = s.absents;
-  overlongs = s.overlongs;
-}
+holding s name bytes = record s { holds = option_map (λ files. insert files name bytes) s.holds }

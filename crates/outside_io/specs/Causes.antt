@@ -9,22 +9,22 @@ pub data Fault : Type 0 where
   NoMemory : Fault
 
 -- how a call comes out: it came to the end of its run, or it was cut off
-pub data Outcome (X : Type 0) : Type 0 where
-  CameTo : (end : X) → Outcome X
-  CutOff : (fault : Fault) → Outcome X
+pub data RunOutcome (X : Type 0) : Type 0 where
+  CameTo : (end : X) → RunOutcome X
+  CutOff : (fault : Fault) → RunOutcome X
 
 -- what an outcome is, where its end is told by another type
-abbrev pub outcome_as : {X Y : Type 0} → (X → Y) → Outcome X → Outcome Y
+abbrev pub outcome_as : {X Y : Type 0} → (X → Y) → RunOutcome X → RunOutcome Y
 outcome_as f (CameTo end) = CameTo (f end)
 outcome_as f (CutOff fault) = CutOff fault
 
 -- the outcome of a part that did not give its value
-abbrev pub stopped_by : {X E : Type 0} → Outcome E → Outcome (Result X E)
+abbrev pub stopped_by : {X E : Type 0} → RunOutcome E → RunOutcome (Result X E)
 stopped_by (CameTo end) = CameTo (Err end)
 stopped_by (CutOff fault) = CutOff fault
 
 -- how a call comes out, by its result, where it is told how each of its errors comes
-abbrev pub outcome_by : {X D E : Type 0} → (D → Outcome E) → Result X D → Outcome (Result X E)
+abbrev pub outcome_by : {X D E : Type 0} → (D → RunOutcome E) → Result X D → RunOutcome (Result X E)
 outcome_by outcome (Ok x) = CameTo (Ok x)
 outcome_by outcome (Err d) = stopped_by (outcome d)
 
@@ -52,6 +52,6 @@ RoseFor old new (WriteFault name) = Rose old.put_faults new.put_faults
 RoseFor old new NoMemory = ⊤
 
 -- the count that shows how the call came out rose, where one shows it
-abbrev pub HasCause : {X : Type 0} → (X → Why) → FolderState → FolderState → Outcome X → Type 0
+abbrev pub HasCause : {X : Type 0} → (X → Why) → FolderState → FolderState → RunOutcome X → Type 0
 HasCause why old new (CameTo end) = RoseBy old new (why end)
 HasCause why old new (CutOff fault) = RoseFor old new fault

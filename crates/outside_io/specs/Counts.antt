@@ -20,20 +20,25 @@ pub record Counts : Type 0 where
 
 -- the counts of a folder at one moment
 abbrev pub counts_of : FolderState → Counts
-counts_of s = record { read_faults = s.read_faults; put_faults = s.put_faults; absents = s.absents; overlongs = s.overlongs }
+counts_of s = record {
+  read_faults = s.read_faults;
+  put_faults = s.put_faults;
+  absents = s.absents;
+  overlongs = s.overlongs;
+}
 
 -- the counts after a read that answered so
 abbrev pub after_read : {X : Type 0} → Counts → Result X ReadEnd → Counts
 after_read counts (Ok x) = counts
-after_read counts (Err Absent) = record { read_faults = counts.read_faults; put_faults = counts.put_faults; absents = raised counts.absents; overlongs = counts.overlongs }
-after_read counts (Err TooLong) = record { read_faults = counts.read_faults; put_faults = counts.put_faults; absents = counts.absents; overlongs = raised counts.overlongs }
-after_read counts (Err Failed) = record { read_faults = raised counts.read_faults; put_faults = counts.put_faults; absents = counts.absents; overlongs = counts.overlongs }
+after_read counts (Err Absent) = record counts { absents = raised counts.absents }
+after_read counts (Err TooLong) = record counts { overlongs = raised counts.overlongs }
+after_read counts (Err Failed) = record counts { read_faults = raised counts.read_faults }
 after_read counts (Err Memory) = counts
 
 -- the counts after a put that answered so
 abbrev pub after_put : {X : Type 0} → Counts → Result X PutEnd → Counts
 after_put counts (Ok x) = counts
-after_put counts (Err puts.Failed) = record { read_faults = counts.read_faults; put_faults = raised counts.put_faults; absents = counts.absents; overlongs = counts.overlongs }
+after_put counts (Err puts.Failed) = record counts { put_faults = raised counts.put_faults }
 after_put counts (Err puts.Memory) = counts
 
 -- the faults of a sink after a write that answered so

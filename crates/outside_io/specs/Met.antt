@@ -3,7 +3,7 @@ use Rattle.std.specs.Prelude.{◌≡◌, ℕ, List, [], ◌∷◌, ◌++◌, Som
 use Rattle.std.specs.Option.{option_map}
 use Rattle.outside_io.specs.State.{Files, PutPair, FolderState, NoCountFell, SameOthers}
 use Rattle.outside_io.specs.Events.{Event, Read, Put, Course, Run, puts_of, applied}
-use Rattle.outside_io.specs.Causes.{Fault, ReadFault, WriteFault, NoMemory, Outcome, CameTo, CutOff, Why, HasCause}
+use Rattle.outside_io.specs.Causes.{Fault, ReadFault, WriteFault, NoMemory, RunOutcome, CameTo, CutOff, Why, HasCause}
 
 -- the puts that succeeded grew by these, where they are told
 abbrev pub PutsGrew : FolderState → FolderState → List PutPair → Type 0
@@ -29,18 +29,20 @@ pub record DidUpTo (files : Files) (old new : FolderState) (all done left : List
 -- The fault came at one of the events, and those before it were done: at a read of that name, at a put of that name, or
 -- anywhere for want of memory.
 abbrev pub IsCutAt : List Event → Files → FolderState → FolderState → Fault → Type 0
-IsCutAt all files old new (ReadFault name) = (done left : List Event) × (limit : ℕ) × DidUpTo files old new all done (Read name limit ∷ left)
-IsCutAt all files old new (WriteFault name) = (done left : List Event) × (bytes : List ℕ) × DidUpTo files old new all done (Put name bytes ∷ left)
+IsCutAt all files old new (ReadFault name) =
+    (done left : List Event) × (limit : ℕ) × DidUpTo files old new all done (Read name limit ∷ left)
+IsCutAt all files old new (WriteFault name) =
+    (done left : List Event) × (bytes : List ℕ) × DidUpTo files old new all done (Put name bytes ∷ left)
 IsCutAt all files old new NoMemory = (done left : List Event) × DidUpTo files old new all done left
 
 -- where the outcome stands in the course: at its end, with all events done, or at one of the events
-abbrev pub Follows : {X : Type 0} → Course X → Files → FolderState → FolderState → Outcome X → Type 0
+abbrev pub Follows : {X : Type 0} → Course X → Files → FolderState → FolderState → RunOutcome X → Type 0
 Follows course files old new (CameTo end) = (end ≡ course.end) × DidAll files old new course.events
 Follows course files old new (CutOff fault) = IsCutAt course.events files old new fault
 
 -- What a call did that makes this run and comes out so. No count fell. The outcome has its cause. And where the folder
 -- tells its files, it is the end of the course with all its puts, or a fault or want of memory on the way.
-pub record Meets {X : Type 0} (why : X → Why) (run : Run X) (old new : FolderState) (outcome : Outcome X) : Type 0 where
+pub record Meets {X : Type 0} (why : X → Why) (run : Run X) (old new : FolderState) (outcome : RunOutcome X) : Type 0 where
   pub later : NoCountFell old new
   pub cause : HasCause why old new outcome
   pub follows : IfSome old.holds (λ files. Follows (run files) files old new outcome)

@@ -9,8 +9,10 @@ use Rattle.outside_io.specs.declared.folder.PutEnd.TheVariants as puts
 
 -- when each refusal of a read comes
 abbrev pub ReadRefused : FolderState → FolderState → List ℕ → ℕ → ReadEnd → Type 0
-ReadRefused old new name limit Absent = Rose old.absents new.absents × IfSome old.holds (λ files. get files name ≡ None)
-ReadRefused old new name limit TooLong = Rose old.overlongs new.overlongs × IfSome old.holds (λ files. IsSomeAnd (get files name) (λ bytes. limit < length bytes))
+ReadRefused old new name limit Absent =
+    Rose old.absents new.absents × IfSome old.holds (λ files. get files name ≡ None)
+ReadRefused old new name limit TooLong =
+    Rose old.overlongs new.overlongs × IfSome old.holds (λ files. IsSomeAnd (get files name) (λ bytes. limit < length bytes))
 ReadRefused old new name limit Failed = Rose old.read_faults new.read_faults
 ReadRefused old new name limit Memory = ⊤
 

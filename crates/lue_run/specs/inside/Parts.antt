@@ -13,5 +13,5 @@ abbrev pub Makes : {X : Type 0} → Run (Result X ScriptEnd) → FolderState →
 Makes run old new result = Meets (why_by why) run old new (outcome_by outcome_of result)
 
 -- a call that touches no folder answers this, or that there is no memory
-abbrev pub Gives : {X : Type 0} → Result X ScriptEnd → Result X SessionEnd → Type 0
-Gives end result = Settles (why_by why) end (outcome_by outcome_of result)
+abbrev pub GivesEnd : {X : Type 0} → Result X ScriptEnd → Result X SessionEnd → Type 0
+GivesEnd end result = Settles (why_by why) end (outcome_by outcome_of result)

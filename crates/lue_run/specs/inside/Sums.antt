@@ -24,6 +24,6 @@ SumRefused sums (Over place) = sums ≡ Err place
 SumRefused sums Memory = ⊤
 
 -- a place that is told is one of so many
-abbrev pub IsPlaceOf : ℕ → SumEnd → Type 0
-IsPlaceOf count (Over place) = place < count
-IsPlaceOf count Memory = ⊤
+abbrev pub IsPlaceAmong : ℕ → SumEnd → Type 0
+IsPlaceAmong count (Over place) = place < count
+IsPlaceAmong count Memory = ⊤

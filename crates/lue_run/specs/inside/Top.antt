@@ -1,7 +1,7 @@
 -- What the parts of a top call answer.
 use Rattle.std.specs.Prelude.{◌≡◌, ◌⊎◌, ◌≤◌, List, ℕ, [], None}
 use Rattle.outside_io.specs.State.{FolderState, SinkState, Rose, Wrote, WroteFront}
-use Rattle.outside_io.specs.Causes.{Outcome}
+use Rattle.outside_io.specs.Causes.{RunOutcome}
 use Rattle.outside_io.specs.Met.{Meets}
 use Rattle.lue_run.specs.declared.ended.Ended.{Ended}
 use Rattle.lue_run.specs.declared.ended.Ended.TheVariants.{Usage, OutFault, Memory}
@@ -13,7 +13,7 @@ use Rattle.lue_run.specs.Answers.{HasLine}
 
 -- what the words came to before their line
 pub record ComesTo (words : List (List ℕ)) (old new : FolderState) (end : Ended) : Type 0 where
-  pub outcome : Outcome CourseEnd
+  pub outcome : RunOutcome CourseEnd
   pub is : end ≡ answer_for outcome
   pub came : Meets why_of (course words) old new outcome
   pub untouched : command_of words ≡ None → new ≡ old
