@@ -3,6 +3,7 @@ use Rattle.std.specs.Prelude.{◌≡◌, ◌↔◌, ℕ, ◌-◌, ◌≤◌, Lis
 use Rattle.outside_io.specs.State.{SinkState}
 use Rattle.outside_io.specs.declared.failing_calls.FailingCalls.{FailingCalls}
 use Rattle.outside_io.specs.declared.mem_sink.MemSink.{MemSink}
+use Rattle.outside_io.specs.declared.mem_sink.TheConstants.{ROOM}
 use Rattle.outside_io.specs.declared.sink.SinkFailed.{SinkFailed}
 
 -- the bytes that were written
@@ -13,13 +14,9 @@ mem_written sink = take sink.len sink.room
 abbrev pub mem_sink_state : MemSink → SinkState
 mem_sink_state sink = record { written = Some (mem_written sink); faults = sink.faults }
 
--- how many bytes it has room for
-abbrev pub most_written : ℕ
-most_written = 4096
-
 -- how many more bytes it has room for
 abbrev pub room_left : MemSink → ℕ
-room_left sink = most_written - length (mem_written sink)
+room_left sink = ROOM - length (mem_written sink)
 
 -- its writes, and which of them are to fail
 abbrev pub sink_calls : MemSink → FailingCalls

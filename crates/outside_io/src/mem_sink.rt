@@ -1,8 +1,10 @@
 ghost use Rattle.std.specs.Prelude.{◌≤◌};
+ghost use Rattle.outside_io.specs.declared.mem_sink.TheConstants.{ROOM};
 
 use crate::failing_calls::FailingCalls;
 use crate::{Sink, SinkFailed};
 
+/// How many bytes a sink in memory has room for.
 const ROOM: usize = 4096;
 
 /// A sink in memory, with room for 4,096 bytes, whose calls fail on demand. It tells its bytes.
@@ -14,7 +16,7 @@ pub struct MemSink {
     len: usize,
     failing: FailingCalls,
     faults: u64,
-    ghost within: { len ≤ 4096 },
+    ghost within: { len ≤ ROOM },
 }
 
 impl MemSink {

@@ -1,5 +1,6 @@
 use Rattle.std.proofs.Common.{◌≡◌, ◌-◌, ◌≤◌, length, vec_len}
 use Rattle.std.specs.Io.KnownBytes.{Consumes}
+use Rattle.outside_io.specs.declared.file_folder.TheConstants.{CHUNK}
 use Rattle.outside_io.proofs.file_folder.read_all.Given as goal
 
 -- the bytes so far are those that were taken, and they are no more than may be
@@ -7,7 +8,7 @@ abbrev pub invariant-loop-bytes : goal.invariant-loop-bytes
 invariant-loop-bytes g l = record {
   taken : Consumes (g.F.Read.remaining l.fn.file) (g.F.Read.remaining l.file) l.bytes.items;
   few : vec_len l.bytes ≤ l.most;
-  whole : length l.room.items ≡ 65536;
+  whole : length l.room.items ≡ CHUNK;
 }
 
 -- each turn takes at least one byte
