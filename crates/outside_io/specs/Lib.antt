@@ -5,6 +5,7 @@ pub mod Events
 pub mod Runs
 pub mod Causes
 pub mod Met
+pub mod Puts
 pub mod FailingCalls
 pub mod CalmFolder
 pub mod MemFolder

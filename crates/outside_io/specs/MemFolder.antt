@@ -1,5 +1,5 @@
 -- What a folder in memory that fails on demand tells.
-use Rattle.std.specs.Prelude.{ℕ, List}
+use Rattle.std.specs.Prelude.{List}
 use Rattle.outside_io.specs.State.{PutPair, FolderState}
 use Rattle.outside_io.specs.Counts.{raised}
 use Rattle.outside_io.specs.CalmFolder.{pairs, calm_folder_state}

@@ -13,6 +13,7 @@ mod file_folder;
 mod folder;
 mod mem_folder;
 mod mem_sink;
+mod puts;
 mod sink;
 mod std_sink;
 
@@ -22,5 +23,6 @@ pub use file_folder::FileFolder;
 pub use folder::{Folder, PutEnd, ReadEnd};
 pub use mem_folder::MemFolder;
 pub use mem_sink::MemSink;
+pub use puts::{NewFile, NotAllPut, put_in_turn};
 pub use sink::{Sink, SinkFailed};
 pub use std_sink::StdSink;

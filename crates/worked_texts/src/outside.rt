@@ -1,8 +1,8 @@
 //! Folders and sinks, those in memory and those of the system.
 
 use outside_io::{
-    CalmFolder, CalmSink, FileFolder, Folder, MemFolder, MemSink, PutEnd, ReadEnd, Sink,
-    SinkFailed, StdSink,
+    CalmFolder, CalmSink, FileFolder, Folder, MemFolder, MemSink, NewFile, NotAllPut, PutEnd,
+    ReadEnd, Sink, SinkFailed, StdSink, put_in_turn,
 };
 use std::alloc::Global;
 use std::cell::RefCell;
@@ -169,5 +169,52 @@ fn standard_output_takes_each_byte(rt: HostRuntime) -> Result<(), Fail> {
         shown.as_slice(),
         b"done files=1 steps=0\nusage\n".as_slice()
     );
+    Ok(())
+}
+
+// A file to be put.
+fn new_file(alloc: Global, name: &str, bytes: &str) -> Result<NewFile, Fail> {
+    Ok(NewFile {
+        name: Vec::from_slice(alloc, name.as_bytes())?,
+        bytes: Vec::from_slice(alloc, bytes.as_bytes())?,
+    })
+}
+
+// The name of the file that was not put, or a word for another end.
+fn stopped_at<'a>(end: &Result<(), NotAllPut<'a>>) -> &'a [u8] {
+    match end {
+        Ok(()) => b"all put",
+        Err(NotAllPut::Failed(file)) => file.name.as_slice(),
+        Err(NotAllPut::Memory) => b"no memory",
+    }
+}
+
+#[test]
+fn files_are_put_in_turn(rt: HostRuntime) -> Result<(), Fail> {
+    let alloc = rt.alloc();
+    let mut files = Vec::new(alloc);
+    files.push(new_file(alloc, "rain", "1")?)?;
+    files.push(new_file(alloc, "flow", "2")?)?;
+    files.push(new_file(alloc, "stage", "3")?)?;
+    for (failing, end, count) in [
+        (0, "all put", 3),
+        (1, "rain", 0),
+        (2, "flow", 1),
+        (3, "stage", 2),
+    ] {
+        let mut folder = MemFolder::new(alloc);
+        folder.fail_on(vec![in alloc; failing]?);
+        let put = put_in_turn(alloc, &mut folder, files.as_slice());
+        assert_eq!(rt;
+            stopped_at(&put),
+            end.as_bytes(),
+            "where call {failing} fails"
+        );
+        assert_eq!(rt;
+            folder.put_count(),
+            count,
+            "puts where call {failing} fails"
+        );
+    }
     Ok(())
 }
