@@ -2,7 +2,7 @@
 use Rattle.std.proofs.Common.{refl}
 use Rattle.std.specs.Prelude.{Ok}
 use Rattle.outside_io.specs.Runs.{settled}
-use Rattle.outside_io.specs.Causes.{CameTo, why_by}
+use Rattle.outside_io.specs.Causes.{CameTo, stopped_by, why_by}
 use Rattle.outside_io.proofs.Callers.{meets_on, meets_out, meets_settled, meets_stop}
 use Rattle.lue_run.specs.Ends.{outcome_of, why}
 use Rattle.lue_run.specs.PlainRun.{grid_run, grid_sum, grids_run}
@@ -34,7 +34,7 @@ returns-in_err-sum g c =
     (meets_on why (grid_run files.first) (after_first files) _ _ _ first _ c.in_ok-first.ensures.meets
     (meets_on why (grid_run files.second) (after_second files first) _ _ _ second _ c.in_ok-second.ensures.meets
     (meets_stop why (settled (grid_sum files.second first second)) (after_sum files first) _ _ (outcome_of _)
-    (meets_settled (why_by why) (grid_sum files.second first second) state _ c.in_err-sum.ensures.settles))))
+    (meets_settled (why_by why) (grid_sum files.second first second) state (stopped_by (outcome_of c.in_err-sum.field-0.0)) c.in_err-sum.ensures.settles))))
 
 pub returns-in_err-put_grid : goal.returns-in_err-put_grid
 returns-in_err-put_grid g c =
