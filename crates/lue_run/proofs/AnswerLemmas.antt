@@ -74,6 +74,7 @@ module _ (call : Call) (answer : Ended) (a : AnswersSo call.words call.before ca
         outcome = a.comes.outcome;
         came = a.comes.came;
         has_line = subst HasLine a.comes.is t.2.has_line;
+        usage = λ is. a.comes.usage (a.comes.is ∙ is);
         status = subst (λ end. t.0 ≡ status_of end) a.comes.is t.2.status;
         rose = t.2.rose;
         front = subst (λ end. WroteFront call.sink_before call.sink_after (line_of end)) a.comes.is t.2.front;

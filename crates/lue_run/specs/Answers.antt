@@ -63,10 +63,12 @@ HasLine Memory = ⊥
 HasLine other = ⊤
 
 -- The call came out with an answer that has a line, whose status is told instead; the sink failed, and got a front of it.
+-- It was usage for no command alone.
 pub record CouldNotWrite (call : Call) (instead : ℕ) : Type 0 where
   pub outcome : RunOutcome CourseEnd
   pub came : CameOut call outcome
   pub has_line : HasLine (answer_for outcome)
+  pub usage : answer_for outcome ≡ Usage → command_of call.words ≡ None
   pub status : instead ≡ status_of (answer_for outcome)
   pub rose : Rose call.sink_before.faults call.sink_after.faults
   pub front : WroteFront call.sink_before call.sink_after (line_of (answer_for outcome))

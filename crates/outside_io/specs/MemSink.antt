@@ -23,11 +23,11 @@ abbrev pub sink_calls : MemSink → FailingCalls
 sink_calls sink = sink.failing
 
 -- A write that is to fail writes nothing.
-pub record IsRefused (old new : MemSink) (result : Result (Unit {0}) SinkFailed) : Type 0 where
+pub record WritesNothing (old new : MemSink) (result : Result (Unit {0}) SinkFailed) : Type 0 where
   pub fails : IsErr result
   pub written : mem_written new ≡ mem_written old
 
 -- Any other write appends what fits, and succeeds where that is all.
-pub record IsWritten (old new : MemSink) (bytes : List ℕ) (result : Result (Unit {0}) SinkFailed) : Type 0 where
+pub record AppendsWhatFits (old new : MemSink) (bytes : List ℕ) (result : Result (Unit {0}) SinkFailed) : Type 0 where
   pub written : mem_written new ≡ mem_written old ++ take (room_left old) bytes
   pub succeeds : IsOk result ↔ (length bytes ≤ room_left old)

@@ -60,7 +60,7 @@ impl Sink for MemSink {
     ghost use Rattle.std.specs.Prelude.{◌≡◌, true, false, MatchResult};
     ghost use Rattle.outside_io.specs.State.{Rose, Wrote, WroteFront};
     ghost use Rattle.outside_io.specs.Counts.{after_write};
-    ghost use Rattle.outside_io.specs.MemSink.{mem_sink_state, sink_calls, IsRefused, IsWritten};
+    ghost use Rattle.outside_io.specs.MemSink.{mem_sink_state, sink_calls, WritesNothing, AppendsWhatFits};
     ghost use Rattle.outside_io.specs.FailingCalls.{is_next_failing, CallMade};
 
     ghost state = { mem_sink_state };
@@ -72,8 +72,8 @@ impl Sink for MemSink {
             × WroteFront (mem_sink_state self.old) (mem_sink_state self.new) bytes.now) }
         ensures later { (mem_sink_state self.old).faults ≤ (mem_sink_state self.new).faults }
         ensures faults { (mem_sink_state self.new).faults ≡ after_write (mem_sink_state self.old).faults result }
-        ensures refused { is_next_failing (sink_calls self.old) ≡ true → IsRefused self.old self.new result }
-        ensures written { is_next_failing (sink_calls self.old) ≡ false → IsWritten self.old self.new bytes.now result }
+        ensures refused { is_next_failing (sink_calls self.old) ≡ true → WritesNothing self.old self.new result }
+        ensures written { is_next_failing (sink_calls self.old) ≡ false → AppendsWhatFits self.old self.new bytes.now result }
         ensures counted { CallMade (sink_calls self.old) (sink_calls self.new) }
     {
         if self.failing.fails_next() {
