@@ -8,7 +8,7 @@ use Rattle.outside_io.proofs.Callers.{if_told, meets_forgotten}
 use Rattle.lue_run.specs.declared.ended.Ended.{Ended}
 use Rattle.lue_run.specs.declared.ended.Ended.TheVariants as top
 use Rattle.lue_run.specs.Words.{command_of}
-use Rattle.lue_run.specs.Ends.{CourseEnd, Usage, OfScript, Done, Missing, TooLong, Unbuilt, Input, Overflow, why_of, end_answer, answer_for}
+use Rattle.lue_run.specs.Ends.{CourseEnd, Usage, OfScript, RanToEnd, Missing, TooLong, Unbuilt, Input, Overflow, why_of, end_answer, answer_for}
 use Rattle.lue_run.specs.Lines.{line_of, status_of}
 use Rattle.lue_run.specs.Course.{course}
 use Rattle.lue_run.specs.Answers.{Call, CameOut, HasLine, IsComplete, IsUsage, IsShown, IsVerdict, IsVerdictKind, IsVerdictOver, LineIsWritten, KeepsCounts, NoFault}
@@ -30,7 +30,7 @@ module _ (call : Call) where
 
   shown_of : (outcome : RunOutcome CourseEnd) → (answer_for outcome ≡ top.Usage → command_of call.words ≡ None) → CameOut call outcome → IsShown call (answer_for outcome)
   shown_of (CameTo Usage) usage m = usage refl
-  shown_of (CameTo (OfScript (Done files steps))) usage m = tt
+  shown_of (CameTo (OfScript (RanToEnd files steps))) usage m = tt
   shown_of (CameTo (OfScript (Missing name))) usage m = m.cause
   shown_of (CameTo (OfScript (TooLong name))) usage m = m.cause
   shown_of (CameTo (OfScript (Unbuilt name))) usage m = tt

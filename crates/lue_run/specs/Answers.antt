@@ -2,7 +2,7 @@
 use Rattle.std.specs.Prelude.{◌≡◌, ◌≤◌, ◌⊎◌, List, ℕ, None, Some, IfSome, ⊤}
 use Rattle.outside_io.specs.State.{Files, FolderState, SinkState, NoCountFell, Rose, Wrote, WroteFront}
 use Rattle.outside_io.specs.Causes.{ReadFault, WriteFault, NoMemory, RunOutcome, CutOff}
-use Rattle.outside_io.specs.Events.{applied}
+use Rattle.outside_io.specs.Events.{files_after}
 use Rattle.outside_io.specs.Met.{PutsGrew, Meets}
 use Rattle.lue_run.specs.declared.ended.Ended.{Ended}
 use Rattle.lue_run.specs.declared.ended.Ended.TheVariants.{Usage, Missing, TooLong, FolderReadFault, FolderWriteFault, OutFault, Memory}
@@ -48,7 +48,7 @@ IsVerdictKind other = ⊤
 pub record IsVerdictOver (call : Call) (said : Ended) (files : Files) : Type 0 where
   pub answer : said ≡ verdict call.words files
   pub puts : PutsGrew call.before call.after (outputs call.words files)
-  pub holds : call.after.holds ≡ Some (applied (outputs call.words files) files)
+  pub holds : call.after.holds ≡ Some (files_after (outputs call.words files) files)
 
 -- where the folder tells its files, the answer is the verdict over them, with all outputs put
 abbrev pub IsVerdict : Call → Ended → Type 0

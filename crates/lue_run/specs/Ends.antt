@@ -14,7 +14,7 @@ use Rattle.lue_run.specs.declared.ended.Tally.{Tally}
 
 -- how the course of a script ends
 pub data ScriptEnd : Type 0 where
-  Done : (files steps : ℕ) → ScriptEnd
+  RanToEnd : (files steps : ℕ) → ScriptEnd
   Missing : (name : List ℕ) → ScriptEnd
   TooLong : (name : List ℕ) → ScriptEnd
   Unbuilt : (name : List ℕ) → ScriptEnd
@@ -23,7 +23,7 @@ pub data ScriptEnd : Type 0 where
 
 -- why a script ends so
 abbrev pub why : ScriptEnd → Why
-why (Done files steps) = ByContents
+why (RanToEnd files steps) = ByContents
 why (Missing name) = ByAbsence
 why (TooLong name) = ByLength
 why (Unbuilt name) = ByContents
@@ -32,20 +32,20 @@ why (Overflow at) = ByContents
 
 -- the end of a script, by what came out of its parts
 abbrev pub script_end : Result Tally ScriptEnd → ScriptEnd
-script_end (Ok tally) = Done tally.files tally.steps
+script_end (Ok tally) = RanToEnd tally.files tally.steps
 script_end (Err end) = end
 
 -- how the run of a script came out that is answered so
-abbrev pub outcome_of : SessionEnd → RunOutcome ScriptEnd
-outcome_of (session.Done files steps) = CameTo (Done files steps)
-outcome_of (session.Missing name) = CameTo (Missing name)
-outcome_of (session.TooLong name) = CameTo (TooLong name)
-outcome_of (session.Unbuilt name) = CameTo (Unbuilt name)
-outcome_of (session.Input name kind) = CameTo (Input name kind)
-outcome_of (session.Overflow at) = CameTo (Overflow at)
-outcome_of (session.FolderReadFault name) = CutOff (ReadFault name)
-outcome_of (session.FolderWriteFault name) = CutOff (WriteFault name)
-outcome_of session.Memory = CutOff NoMemory
+abbrev pub session_outcome : SessionEnd → RunOutcome ScriptEnd
+session_outcome (session.Done files steps) = CameTo (RanToEnd files steps)
+session_outcome (session.Missing name) = CameTo (Missing name)
+session_outcome (session.TooLong name) = CameTo (TooLong name)
+session_outcome (session.Unbuilt name) = CameTo (Unbuilt name)
+session_outcome (session.Input name kind) = CameTo (Input name kind)
+session_outcome (session.Overflow at) = CameTo (Overflow at)
+session_outcome (session.FolderReadFault name) = CutOff (ReadFault name)
+session_outcome (session.FolderWriteFault name) = CutOff (WriteFault name)
+session_outcome session.Memory = CutOff NoMemory
 
 -- ---- the ends of a call, which its words and the files decide
 
@@ -61,7 +61,7 @@ why_of (OfScript end) = why end
 
 -- the answer for the end of a script
 abbrev pub script_answer : ScriptEnd → Ended
-script_answer (Done files steps) = top.Done files steps
+script_answer (RanToEnd files steps) = top.Done files steps
 script_answer (Missing name) = top.Missing name
 script_answer (TooLong name) = top.TooLong name
 script_answer (Unbuilt name) = top.Unbuilt name

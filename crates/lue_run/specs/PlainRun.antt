@@ -68,13 +68,13 @@ grid_run name = do
   settled (or_input name (grid_of Scalar text))
 
 -- the first place of a map of so many columns whose sum is out of range
-abbrev pub over_at : ℕ → ℕ → OverAt
-over_at cols place = record { step = 0; statement = 1; operation = 1; row = place / cols + 1; col = place % cols + 1 }
+abbrev pub overflow_at : ℕ → ℕ → OverAt
+overflow_at cols place = record { step = 0; statement = 1; operation = 1; row = place / cols + 1; col = place % cols + 1 }
 
 -- the map of sums, or the end of a run at the first sum that is out of range
 abbrev pub or_overflow : ℕ → Result (List Cell) ℕ → Result (List Cell) ScriptEnd
 or_overflow cols (Ok cells) = Ok cells
-or_overflow cols (Err place) = Err (Overflow (over_at cols place))
+or_overflow cols (Err place) = Err (Overflow (overflow_at cols place))
 
 -- whether two grids have as many rows and as many columns
 abbrev pub same_size : Grid → Grid → Bool

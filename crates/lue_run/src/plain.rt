@@ -2,10 +2,10 @@ ghost use Rattle.std.specs.Prelude.{◌≡◌, ◌<◌, ◌≤◌, length, Match
 ghost use Rattle.text_base.specs.Limits.{most_cells, most_script_bytes, most_text_bytes};
 ghost use Rattle.outside_io.specs.Runs.{putting};
 ghost use Rattle.outside_io.specs.Met.{Meets};
-ghost use Rattle.lue_run.specs.Ends.{outcome_of, why};
-ghost use Rattle.lue_run.specs.PlainRun.{grid_run, grid_sum, grids_run, over_at, or_input, or_unbuilt, script_run, sum_files, sum_run, text_run};
+ghost use Rattle.lue_run.specs.Ends.{session_outcome, why};
+ghost use Rattle.lue_run.specs.PlainRun.{grid_run, grid_sum, grids_run, overflow_at, or_input, or_unbuilt, script_run, sum_files, sum_run, text_run};
 ghost use Rattle.lue_run.specs.inside.Parts.{GivesEnd, Makes};
-ghost use Rattle.lue_run.specs.inside.Values.{IsInput, IsSized, IsUnbuilt, files_named};
+ghost use Rattle.lue_run.specs.inside.Values.{IsInputEnd, IsSized, IsUnbuilt, files_named};
 ghost use Rattle.cell_values.specs.declared.kind.Kind.TheVariants.{Scalar};
 ghost use Rattle.grid_text.specs.inside.Reading.{grid_of};
 ghost use Rattle.grid_text.specs.Written.{written_grid};
@@ -71,7 +71,7 @@ fn unbuilt(alloc: Global, name: &Word) -> SessionEnd
 
 // The end at an input that is not as it is to be.
 fn input(alloc: Global, name: &Word, kind: InputKind) -> SessionEnd
-    ensures { IsInput name.now kind result }
+    ensures { IsInputEnd name.now kind result }
 {
     match name.twin(alloc) {
         Ok(name) => SessionEnd::Input { name, kind },
@@ -102,10 +102,10 @@ fn grid_at<F: Folder>(alloc: Global, folder: &mut F, name: &Word) -> Result<Grid
 }
 
 // Where a map of so many columns has its first sum that is out of range.
-fn over_at(cols: u32, place: usize) -> OverAt
+fn overflow_at(cols: u32, place: usize) -> OverAt
     requires some { 0 < cols }
     requires few { place < most_cells }
-    ensures { result ≡ over_at cols place }
+    ensures { result ≡ overflow_at cols place }
 {
     OverAt {
         step: 0,
@@ -161,7 +161,7 @@ fn sum_grids(alloc: Global, name: &Word, first: &Grid, second: &Grid) -> Result<
     match sum_maps(alloc, first.cells.as_slice(), second.cells.as_slice()) {
         Ok(cells) => Ok(cells),
         Err(SumEnd::Memory) => Err(SessionEnd::Memory),
-        Err(SumEnd::Over(place)) => Err(SessionEnd::Overflow(over_at(first.cols, place))),
+        Err(SumEnd::Over(place)) => Err(SessionEnd::Overflow(overflow_at(first.cols, place))),
     }
 }
 
@@ -201,7 +201,7 @@ fn make_sum<F: Folder>(alloc: Global, folder: &mut F, name: &Word) -> Result<Tal
 
 /// Runs the script of this name.
 pub fn run_script<F: Folder>(alloc: Global, folder: &mut F, name: &Word) -> SessionEnd
-    ensures { Meets why (script_run name.now) (F.state folder.old) (F.state folder.new) (outcome_of result) }
+    ensures { Meets why (script_run name.now) (F.state folder.old) (F.state folder.new) (session_outcome result) }
 {
     match make_sum(alloc, folder, name) {
         Ok(tally) => SessionEnd::Done {

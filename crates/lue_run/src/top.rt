@@ -1,7 +1,7 @@
 ghost use Rattle.std.specs.Prelude.{◌≡◌, ◌≤◌, None};
 ghost use Rattle.outside_io.specs.Causes.{outcome_as};
 ghost use Rattle.lue_run.specs.Answers.{HasLine, IsComplete, IsUsage, IsShown, IsVerdict, IsVerdictKind, LineIsWritten, KeepsCounts, NoFault, call_of};
-ghost use Rattle.lue_run.specs.Ends.{OfScript, answer_for, outcome_of};
+ghost use Rattle.lue_run.specs.Ends.{OfScript, answer_for, session_outcome};
 ghost use Rattle.lue_run.specs.Words.{command_of};
 ghost use Rattle.lue_run.specs.inside.Top.{AnswersSo, ComesTo, Tells};
 
@@ -15,7 +15,7 @@ use std::alloc::Global;
 
 // The answer for the end of a script.
 fn ended(end: SessionEnd) -> Ended
-    ensures answer { result ≡ answer_for (outcome_as OfScript (outcome_of end)) }
+    ensures answer { result ≡ answer_for (outcome_as OfScript (session_outcome end)) }
     ensures script { result ≡ Ended.Usage → ⊥ }
 {
     match end {

@@ -5,7 +5,7 @@ use Rattle.std.specs.Option.{option_map}
 use Rattle.std.specs.declared.option.Option.{Option}
 use Rattle.std.specs.FinMap.{insert}
 use Rattle.outside_io.specs.State.{Files, PutPair, FolderState}
-use Rattle.outside_io.specs.Events.{Event, Read, Put, puts_of, applied}
+use Rattle.outside_io.specs.Events.{Event, Read, Put, puts_of, files_after}
 use Rattle.outside_io.specs.Met.{PutsGrew}
 
 -- the puts of two lists of events are those of the first and then those of the second
@@ -14,13 +14,13 @@ puts_of-append [] ys = refl
 puts_of-append (Read name limit ∷ xs) ys = puts_of-append xs ys
 puts_of-append (Put name bytes ∷ xs) ys = ap (λ ps. (name, bytes) ∷ ps) (puts_of-append xs ys)
 
-applied-append : (xs ys : List PutPair) (files : Files) → applied (xs ++ ys) files ≡ applied ys (applied xs files)
+applied-append : (xs ys : List PutPair) (files : Files) → files_after (xs ++ ys) files ≡ files_after ys (files_after xs files)
 applied-append [] ys files = refl
 applied-append (put ∷ xs) ys files = applied-append xs ys (insert files put.0 put.1)
 
 -- the files after the first events and then the rest are those after all of them
-pub applied_on : (first rest : List Event) (files : Files) → applied (puts_of rest) (applied (puts_of first) files) ≡ applied (puts_of (first ++ rest)) files
-applied_on first rest files = sym (ap (λ ps. applied ps files) (puts_of-append first rest) ∙ applied-append (puts_of first) (puts_of rest) files)
+pub applied_on : (first rest : List Event) (files : Files) → files_after (puts_of rest) (files_after (puts_of first) files) ≡ files_after (puts_of (first ++ rest)) files
+applied_on first rest files = sym (ap (λ ps. files_after ps files) (puts_of-append first rest) ∙ applied-append (puts_of first) (puts_of rest) files)
 
 grown : (before : Option (List PutPair)) (puts more : List PutPair) → option_map (λ xs. xs ++ more) (option_map (λ xs. xs ++ puts) before) ≡ option_map (λ xs. xs ++ (puts ++ more)) before
 grown None puts more = refl

@@ -8,7 +8,7 @@ use Rattle.std.specs.declared.option.Option.{Option}
 use Rattle.std.specs.FinMap.{get, insert}
 use Rattle.outside_io.specs.State.{Files, PutPair, FolderState, NoCountFell, SameOthers, IsFound, ReadKeeps, IsPut, PutKeeps}
 use Rattle.outside_io.specs.Refusals.{ReadRefused, PutRefused}
-use Rattle.outside_io.specs.Events.{Event, Read, Put, Course, Run, puts_of, applied}
+use Rattle.outside_io.specs.Events.{Event, Read, Put, Course, Run, puts_of, files_after}
 use Rattle.outside_io.specs.Runs.{settled, within_limit, reading, putting, continued, ◌>>=◌, finished, afterwards, end_as}
 use Rattle.outside_io.specs.Causes.{Fault, ReadFault, WriteFault, NoMemory, RunOutcome, CameTo, CutOff, outcome_as, stopped_by, Why, ByContents, ByAbsence, ByLength, why_by, RoseBy, RoseFor, HasCause}
 use Rattle.outside_io.specs.Met.{PutsGrew, DidAll, HoldsBut, DidUpTo, IsCutAt, Follows, Meets}
@@ -94,7 +94,7 @@ cut_more all more files old new (WriteFault name) f = (f.0, f.1 ++ more, f.2, le
 cut_more all more files old new NoMemory f = (f.0, f.1 ++ more, left_more files old new all f.0 f.1 more f.2)
 
 module _ (files : Files) (old mid new : FolderState) (first : List Event) (d : DidAll files old mid first) where
-  up_to_later : (all done left : List Event) → DidUpTo (applied (puts_of first) files) mid new all done left → DidUpTo files old new (first ++ all) (first ++ done) left
+  up_to_later : (all done left : List Event) → DidUpTo (files_after (puts_of first) files) mid new all done left → DidUpTo files old new (first ++ all) (first ++ done) left
   up_to_later all done left u = record {
     events = ap (λ events. first ++ events) u.events ∙ sym (append_assoc first done left);
     puts = grew_on old mid new first done d.puts u.puts;
@@ -102,22 +102,22 @@ module _ (files : Files) (old mid new : FolderState) (first : List Event) (d : D
   }
 
   -- what was cut off after the first events
-  cut_later : (all : List Event) (fault : Fault) → IsCutAt all (applied (puts_of first) files) mid new fault → IsCutAt (first ++ all) files old new fault
+  cut_later : (all : List Event) (fault : Fault) → IsCutAt all (files_after (puts_of first) files) mid new fault → IsCutAt (first ++ all) files old new fault
   cut_later all (ReadFault name) f = (first ++ f.0, f.1, f.2, up_to_later all f.0 (Read name f.2 ∷ f.1) f.3)
   cut_later all (WriteFault name) f = (first ++ f.0, f.1, f.2, up_to_later all f.0 (Put name f.2 ∷ f.1) f.3)
   cut_later all NoMemory f = (first ++ f.0, f.1, up_to_later all f.0 f.1 f.2)
 
-  did_later : (events : List Event) → DidAll (applied (puts_of first) files) mid new events → DidAll files old new (first ++ events)
+  did_later : (events : List Event) → DidAll (files_after (puts_of first) files) mid new events → DidAll files old new (first ++ events)
   did_later events n = record { puts = grew_on old mid new first events d.puts n.puts; holds = n.holds ∙ ap Some (applied_on first events files) }
 
   -- a course that began where the first events were done
-  follows_later : {X : Type 0} (course : Course X) (outcome : RunOutcome X) → Follows course (applied (puts_of first) files) mid new outcome →
+  follows_later : {X : Type 0} (course : Course X) (outcome : RunOutcome X) → Follows course (files_after (puts_of first) files) mid new outcome →
       Follows (record { events = first ++ course.events; end = course.end }) files old new outcome
   follows_later course (CameTo end) f = (f.0, did_later course.events f.1)
   follows_later course (CutOff fault) f = cut_later course.events fault f
 
 -- where all of the first events were done, the folder tells the files after them
-after_told : (files : Files) (old mid : FolderState) (first : List Event) (P : Files → Type 0) → DidAll files old mid first → IfSome mid.holds P → P (applied (puts_of first) files)
+after_told : (files : Files) (old mid : FolderState) (first : List Event) (P : Files → Type 0) → DidAll files old mid first → IfSome mid.holds P → P (files_after (puts_of first) files)
 after_told files old mid first P d p = subst (λ h. IfSome h P) d.holds p
 
 -- ---- a part, and then the next
@@ -148,14 +148,14 @@ module _ {X Y E : Type 0} (why : E → Why) (run : Run (Result X E)) (next : X �
     later = m.later;
     cause = same_cause X Y why old new outcome m.cause;
     follows = if_told old.holds (λ files. Follows (run files) files old new (stopped_by outcome)) (λ files. Follows ((run >>= next) files) files old new (stopped_by outcome))
-        (λ files f. stopped (run files).events (run files).end (λ x. next x (applied (puts_of (run files).events) files)) files old new outcome f) m.follows;
+        (λ files f. stopped (run files).events (run files).end (λ x. next x (files_after (puts_of (run files).events) files)) files old new outcome f) m.follows;
   }
 
   went_on : (old mid new : FolderState) (x : X) (outcome : RunOutcome (Result Y E)) (files : Files) → IfSome mid.holds (λ files. Follows (next x files) files mid new outcome) →
       Follows (run files) files old mid (CameTo (Ok x)) → Follows ((run >>= next) files) files old new outcome
   went_on old mid new x outcome files g f =
       let events = (run files).events in
-      let after = applied (puts_of events) files in
+      let after = files_after (puts_of events) files in
       subst (λ o. Follows (continued events (λ x. next x after) o) files old new outcome) f.0
       (follows_later files old mid new events f.1 (next x after) outcome (after_told files old mid events (λ files. Follows (next x files) files mid new outcome) f.1 g))
 
@@ -176,7 +176,7 @@ lt-leb-false a b h = grind (arith, nat_tests)
 did_none : (old new : FolderState) (files : Files) → ReadKeeps old new → old.holds ≡ Some files → (events : List Event) → puts_of events ≡ [] → DidAll files old new events
 did_none old new files k h events none = record {
   puts = grew_by_none old.puts new.puts k.puts ∙ ap (λ ps. option_map (λ before. before ++ ps) old.puts) (sym none);
-  holds = k.holds ∙ (h ∙ ap (λ ps. Some (applied ps files)) (sym none));
+  holds = k.holds ∙ (h ∙ ap (λ ps. Some (files_after ps files)) (sym none));
 }
 
 module _ {X : Type 0} (why : X → Why) where
@@ -323,7 +323,7 @@ module _ {X E : Type 0} (why : E → Why) (run : Run (Result X E)) (last : Resul
       both : (files : Files) → Follows (run files) files old mid (CameTo end) → Follows (afterwards run last files) files old new (CameTo end)
       both files f =
           let events = (run files).events in
-          let after = applied (puts_of events) files in
+          let after = files_after (puts_of events) files in
           let second = λ (o : Result X E). last o after in
           let h = after_told files old mid events (λ files. Follows (last end files) files mid new (CameTo (Ok tt))) f.1 n.follows in
           let all : Follows (finished (events ++ (second end).events) end (second end).end) files old new (CameTo end) =
@@ -344,7 +344,7 @@ module _ {X E : Type 0} (why : E → Why) (run : Run (Result X E)) (last : Resul
       cut : (files : Files) → IsCutAt (run files).events files old new fault → Follows (afterwards run last files) files old new (CutOff fault)
       cut files f =
           let first = run files in
-          let second = last first.end (applied (puts_of first.events) files) in
+          let second = last first.end (files_after (puts_of first.events) files) in
           subst (λ all. IsCutAt all files old new fault) (sym (more_of first.events second first.end)) (cut_more first.events second.events files old new fault f)
 
   ended_last : (first : List Event) (second : Course (Result (Unit {0}) E)) (end : Result X E) (files : Files) (old new : FolderState) (outcome : RunOutcome E) →
@@ -365,7 +365,7 @@ module _ {X E : Type 0} (why : E → Why) (run : Run (Result X E)) (last : Resul
       second_ended : (files : Files) → Follows (run files) files old mid (CameTo end) → Follows (afterwards run last files) files old new (stopped_by outcome)
       second_ended files f =
           let events = (run files).events in
-          let after = applied (puts_of events) files in
+          let after = files_after (puts_of events) files in
           let h = after_told files old mid events (λ files. Follows (last end files) files mid new (stopped_by outcome)) f.1 n.follows in
           subst (λ o. Follows (finished (events ++ (last o after).events) o (last o after).end) files old new (stopped_by outcome)) f.0
           (ended_last events (last end after) end files old new outcome (follows_later files old mid new events f.1 (last end after) (stopped_by outcome) h))

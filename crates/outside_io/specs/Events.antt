@@ -24,6 +24,6 @@ puts_of (Read name limit ∷ events) = puts_of events
 puts_of (Put name bytes ∷ events) = (name, bytes) ∷ puts_of events
 
 -- the files after these puts, the first of them first
-abbrev pub applied : List PutPair → Files → Files
-applied [] files = files
-applied (put ∷ puts) files = applied puts (insert files put.0 put.1)
+abbrev pub files_after : List PutPair → Files → Files
+files_after [] files = files
+files_after (put ∷ puts) files = files_after puts (insert files put.0 put.1)

@@ -2,7 +2,7 @@
 use Rattle.std.specs.Prelude.{◌≡◌, ℕ, List, [], ◌∷◌, ◌++◌, Some, IfSome}
 use Rattle.std.specs.Option.{option_map}
 use Rattle.outside_io.specs.State.{Files, PutPair, FolderState, NoCountFell, SameOthers}
-use Rattle.outside_io.specs.Events.{Event, Read, Put, Course, Run, puts_of, applied}
+use Rattle.outside_io.specs.Events.{Event, Read, Put, Course, Run, puts_of, files_after}
 use Rattle.outside_io.specs.Causes.{Fault, ReadFault, WriteFault, NoMemory, RunOutcome, CameTo, CutOff, Why, HasCause}
 
 -- the puts that succeeded grew by these, where they are told
@@ -12,7 +12,7 @@ PutsGrew old new puts = new.puts ≡ option_map (λ before. before ++ puts) old.
 -- all the events are done
 pub record DidAll (files : Files) (old new : FolderState) (events : List Event) : Type 0 where
   pub puts : PutsGrew old new (puts_of events)
-  pub holds : new.holds ≡ Some (applied (puts_of events) files)
+  pub holds : new.holds ≡ Some (files_after (puts_of events) files)
 
 -- the folder holds these files, but that one whose put comes next may hold anything
 abbrev pub HoldsBut : List Event → Files → FolderState → Type 0
@@ -24,7 +24,7 @@ HoldsBut (Put name bytes ∷ events) files new = SameOthers name (Some files) ne
 pub record DidUpTo (files : Files) (old new : FolderState) (all done left : List Event) : Type 0 where
   pub events : all ≡ done ++ left
   pub puts : PutsGrew old new (puts_of done)
-  pub holds : HoldsBut left (applied (puts_of done) files) new
+  pub holds : HoldsBut left (files_after (puts_of done) files) new
 
 -- The fault came at one of the events, and those before it were done: at a read of that name, at a put of that name, or
 -- anywhere for want of memory.

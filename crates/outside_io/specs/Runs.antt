@@ -2,7 +2,7 @@
 use Rattle.std.specs.Prelude.{ℕ, nat_le, List, [], ◌∷◌, ◌++◌, length, None, Some, Ok, Err, Result, if◌then◌else◌}
 use Rattle.std.specs.declared.option.Option.{Option}
 use Rattle.std.specs.FinMap.{get}
-use Rattle.outside_io.specs.Events.{Event, Read, Put, Course, Run, puts_of, applied}
+use Rattle.outside_io.specs.Events.{Event, Read, Put, Course, Run, puts_of, files_after}
 
 -- nothing is read or put
 abbrev pub settled : {X : Type 0} → X → Run X
@@ -34,7 +34,7 @@ infixl 10 ◌>>=◌
 abbrev pub ◌>>=◌ : {X Y E : Type 0} → Run (Result X E) → (X → Run (Result Y E)) → Run (Result Y E)
 run >>= next = λ files.
     let first = run files in
-    continued first.events (λ x. next x (applied (puts_of first.events) files)) first.end
+    continued first.events (λ x. next x (files_after (puts_of first.events) files)) first.end
 
 -- a part for each item, in order; each goes on from the value of the one before
 abbrev pub in_turn : {A S E : Type 0} → (S → A → Run (Result S E)) → S → List A → Run (Result S E)
@@ -50,7 +50,7 @@ finished events first (Err e) = record { events = events; end = Err e }
 abbrev pub afterwards : {X E : Type 0} → Run (Result X E) → (Result X E → Run (Result (Unit {0}) E)) → Run (Result X E)
 afterwards run last = λ files.
     let first = run files in
-    let second = last first.end (applied (puts_of first.events) files) in
+    let second = last first.end (files_after (puts_of first.events) files) in
     finished (first.events ++ second.events) first.end second.end
 
 -- the same run, whose end is told by another type

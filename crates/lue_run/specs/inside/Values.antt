@@ -18,8 +18,8 @@ abbrev pub files_named : code.SumFiles → SumFiles
 files_named files = record { first = files.first.now; second = files.second.now; target = files.target.now }
 
 -- the end at this input, which is not as it is to be, or want of memory
-abbrev pub IsInput : List ℕ → InputKind → SessionEnd → Type 0
-IsInput name kind end = (end ≡ Input name kind) ⊎ (end ≡ Memory)
+abbrev pub IsInputEnd : List ℕ → InputKind → SessionEnd → Type 0
+IsInputEnd name kind end = (end ≡ Input name kind) ⊎ (end ≡ Memory)
 
 -- the end at this file, which is outside of what is built, or want of memory
 abbrev pub IsUnbuilt : List ℕ → SessionEnd → Type 0

@@ -4,7 +4,7 @@ use Rattle.std.specs.Prelude.{Ok, Result}
 use Rattle.outside_io.specs.Runs.{settled}
 use Rattle.outside_io.specs.Causes.{CameTo, why_by}
 use Rattle.outside_io.proofs.Callers.{meets_on, meets_out, meets_settled, meets_stop}
-use Rattle.lue_run.specs.Ends.{ScriptEnd, outcome_of, why}
+use Rattle.lue_run.specs.Ends.{ScriptEnd, session_outcome, why}
 use Rattle.lue_run.specs.PlainRun.{SumFiles, grids_run, or_unbuilt, sum_files, sum_run, text_run}
 use Rattle.lue_run.specs.inside.Values.{files_named}
 use Rattle.lue_run.proofs.Rest.{after_script}
@@ -13,8 +13,8 @@ use Rattle.lue_run.proofs.plain.make_sum.Goals as goal
 pub returns-in_err-script : goal.returns-in_err-script
 returns-in_err-script g c =
     let name = c.args.name.now in
-    meets_out why (sum_run name) _ outcome_of _ c.from_residual.result _ c.from_residual.ensures.1
-    (meets_stop why (text_run name) (after_script name) _ _ (outcome_of _) c.in_err-script.ensures)
+    meets_out why (sum_run name) _ session_outcome _ c.from_residual.result _ c.from_residual.ensures.1
+    (meets_stop why (text_run name) (after_script name) _ _ (session_outcome _) c.in_err-script.ensures)
 
 pub returns : goal.returns
 returns g c =

@@ -7,7 +7,7 @@ use Rattle.outside_io.specs.Causes.{CameTo, outcome_as}
 use Rattle.outside_io.specs.Met.{Meets}
 use Rattle.outside_io.proofs.Callers.{meets_end_as, meets_settled}
 use Rattle.lue_run.specs.Words.{Plain}
-use Rattle.lue_run.specs.Ends.{OfScript, Usage, outcome_of, why, why_of}
+use Rattle.lue_run.specs.Ends.{OfScript, Usage, session_outcome, why, why_of}
 use Rattle.lue_run.specs.Course.{run_of}
 use Rattle.lue_run.specs.PlainRun.{script_run}
 use Rattle.lue_run.proofs.top.come_to.Goals as goal
@@ -21,7 +21,7 @@ returns-in-Some g c =
     let state = g.F.Folder.state in
     let old = state c.args.folder.now in
     let new = state c.run_script.new.folder in
-    let end = outcome_of c.run_script.result in
+    let end = session_outcome c.run_script.result in
     let outcome = outcome_as OfScript end in record {
       outcome = outcome;
       is = c.ended.ensures.answer;
