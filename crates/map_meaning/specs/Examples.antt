@@ -1,5 +1,6 @@
 -- Worked examples: what the definitions give at cells, programs and statements that were worked out by hand.
-use Rattle.std.specs.Prelude.{◌≡◌, ℕ, true, false, List, [], ◌∷◌, pos, negsuc, Option, Some, None, Result, Ok, Err, map, codes}
+use Rattle.std.specs.Prelude.{◌≡◌, ℕ, ◌*◌, Bool, true, false, List, [], ◌∷◌, pos, neg_ℤ, map, codes}
+use Rattle.std.specs.Prelude.{Option, Some, None, Result, Ok, Err}
 use Rattle.cell_values.specs.declared.kind.Kind.{Kind}
 use Rattle.cell_values.specs.declared.kind.Kind.TheVariants.{Boolean, Nominal, Ordinal, Scalar}
 use Rattle.cell_values.specs.declared.cell.Cell.{Cell}
@@ -35,21 +36,29 @@ cells_of o kinds maps places = (part_of (outcome_of o (record { kinds = kinds })
 abbrev pub over_of : Op → List Kind → List (List Cell) → ℕ → Option ℕ
 over_of o kinds maps places = (part_of (outcome_of o (record { kinds = kinds }) (map cell_at maps)) places).over
 
+-- so many whole ones, as a scalar
+abbrev pub whole_scalar : ℕ → Cell
+whole_scalar n = Val (pos (n * 1000000))
+
+-- so many millionths below zero, as a scalar
+abbrev pub below_zero : ℕ → Cell
+below_zero n = Val (neg_ℤ (pos n))
+
 -- 1, missing, 3
 abbrev pub first_map : List Cell
-first_map = Val (pos 1000000) ∷ Mv ∷ Val (pos 3000000) ∷ []
+first_map = whole_scalar 1 ∷ Mv ∷ whole_scalar 3 ∷ []
 
 -- missing, 5, 6
 abbrev pub second_map : List Cell
-second_map = Mv ∷ Val (pos 5000000) ∷ Val (pos 6000000) ∷ []
+second_map = Mv ∷ whole_scalar 5 ∷ whole_scalar 6 ∷ []
 
 -- true, false, missing
 abbrev pub condition : List Cell
-condition = Val (pos 1) ∷ Val (pos 0) ∷ Mv ∷ []
+condition = truth true ∷ truth false ∷ Mv ∷ []
 
 -- -2.5, 2.5, -0.1 and 3
 abbrev pub near_whole : List Cell
-near_whole = Val (negsuc 2499999) ∷ Val (pos 2500000) ∷ Val (negsuc 99999) ∷ Val (pos 3000000) ∷ []
+near_whole = below_zero 2500000 ∷ Val (pos 2500000) ∷ below_zero 100000 ∷ whole_scalar 3 ∷ []
 
 -- false, false, true, true, false, true
 abbrev pub firsts : List Cell
@@ -59,35 +68,58 @@ firsts = truth false ∷ truth false ∷ truth true ∷ truth true ∷ truth fal
 abbrev pub seconds : List Cell
 seconds = truth false ∷ truth true ∷ truth false ∷ truth true ∷ Mv ∷ Mv ∷ []
 
+-- what an operation on two booleans gives at the places of these maps
+abbrev pub of_truths : Op → List Cell
+of_truths o = cells_of o (Boolean ∷ Boolean ∷ []) (firsts ∷ seconds ∷ []) 6
+
+-- four truths, and two missing values
+abbrev pub truths : Bool → Bool → Bool → Bool → List Cell
+truths a b c d = truth a ∷ truth b ∷ truth c ∷ truth d ∷ Mv ∷ Mv ∷ []
+
 -- what the operations on cells give at the places of these maps
 pub record CellExamples : Type 0 where
   -- `if(C then A else B)`, `if(C then A)`, `cover(A, B)`, `defined(A)`
-  pub if_else : cells_of op.IfElse (Boolean ∷ Scalar ∷ Scalar ∷ []) (condition ∷ first_map ∷ second_map ∷ []) 3 ≡ Val (pos 1000000) ∷ Val (pos 5000000) ∷ Mv ∷ []
-  pub if_then : cells_of op.IfThen (Boolean ∷ Scalar ∷ []) (condition ∷ first_map ∷ []) 3 ≡ Val (pos 1000000) ∷ Mv ∷ Mv ∷ []
-  pub covered : cells_of op.Cover (Scalar ∷ Scalar ∷ []) (first_map ∷ second_map ∷ []) 3 ≡ Val (pos 1000000) ∷ Val (pos 5000000) ∷ Val (pos 3000000) ∷ []
+  pub if_else : cells_of op.IfElse (Boolean ∷ Scalar ∷ Scalar ∷ []) (condition ∷ first_map ∷ second_map ∷ []) 3
+    ≡ whole_scalar 1 ∷ whole_scalar 5 ∷ Mv ∷ []
+  pub if_then : cells_of op.IfThen (Boolean ∷ Scalar ∷ []) (condition ∷ first_map ∷ []) 3 ≡ whole_scalar 1 ∷ Mv ∷ Mv ∷ []
+  pub covered : cells_of op.Cover (Scalar ∷ Scalar ∷ []) (first_map ∷ second_map ∷ []) 3
+    ≡ whole_scalar 1 ∷ whole_scalar 5 ∷ whole_scalar 3 ∷ []
   pub defined : cells_of op.Defined (Scalar ∷ []) (first_map ∷ []) 3 ≡ truth true ∷ truth false ∷ truth true ∷ []
   -- `1 / 0`, and a sum with a missing operand
-  pub divided : cells_of op.Div (Scalar ∷ Scalar ∷ []) ((Val (pos 1000000) ∷ []) ∷ (Val (pos 0) ∷ []) ∷ []) 1 ≡ Mv ∷ []
-  pub added : cells_of op.Add (Scalar ∷ Scalar ∷ []) ((Mv ∷ []) ∷ (Val (pos 1000000) ∷ []) ∷ []) 1 ≡ Mv ∷ []
+  pub divided : cells_of op.Div (Scalar ∷ Scalar ∷ []) ((whole_scalar 1 ∷ []) ∷ (whole_scalar 0 ∷ []) ∷ []) 1 ≡ Mv ∷ []
+  pub added : cells_of op.Add (Scalar ∷ Scalar ∷ []) ((Mv ∷ []) ∷ (whole_scalar 1 ∷ []) ∷ []) 1 ≡ Mv ∷ []
   -- whole numbers near -2.5, 2.5, -0.1 and 3
-  pub down : cells_of op.RoundDown (Scalar ∷ []) (near_whole ∷ []) 4 ≡ Val (negsuc 2999999) ∷ Val (pos 2000000) ∷ Val (negsuc 999999) ∷ Val (pos 3000000) ∷ []
-  pub up : cells_of op.RoundUp (Scalar ∷ []) (near_whole ∷ []) 4 ≡ Val (negsuc 1999999) ∷ Val (pos 3000000) ∷ Val (pos 0) ∷ Val (pos 3000000) ∷ []
-  pub off : cells_of op.RoundOff (Scalar ∷ []) (near_whole ∷ []) 4 ≡ Val (negsuc 2999999) ∷ Val (pos 3000000) ∷ Val (pos 0) ∷ Val (pos 3000000) ∷ []
-  -- truth tables and the order of booleans as numbers
-  pub conjunction : cells_of op.And (Boolean ∷ Boolean ∷ []) (firsts ∷ seconds ∷ []) 6 ≡ truth false ∷ truth false ∷ truth false ∷ truth true ∷ Mv ∷ Mv ∷ []
-  pub disjunction : cells_of op.Or (Boolean ∷ Boolean ∷ []) (firsts ∷ seconds ∷ []) 6 ≡ truth false ∷ truth true ∷ truth true ∷ truth true ∷ Mv ∷ Mv ∷ []
-  pub exclusion : cells_of op.Xor (Boolean ∷ Boolean ∷ []) (firsts ∷ seconds ∷ []) 6 ≡ truth false ∷ truth true ∷ truth true ∷ truth false ∷ Mv ∷ Mv ∷ []
-  pub less : cells_of op.Less (Ordinal ∷ Ordinal ∷ []) (firsts ∷ seconds ∷ []) 6 ≡ truth false ∷ truth true ∷ truth false ∷ truth false ∷ Mv ∷ Mv ∷ []
+  pub down : cells_of op.RoundDown (Scalar ∷ []) (near_whole ∷ []) 4
+    ≡ below_zero 3000000 ∷ whole_scalar 2 ∷ below_zero 1000000 ∷ whole_scalar 3 ∷ []
+  pub up : cells_of op.RoundUp (Scalar ∷ []) (near_whole ∷ []) 4
+    ≡ below_zero 2000000 ∷ whole_scalar 3 ∷ whole_scalar 0 ∷ whole_scalar 3 ∷ []
+  pub off : cells_of op.RoundOff (Scalar ∷ []) (near_whole ∷ []) 4
+    ≡ below_zero 3000000 ∷ whole_scalar 3 ∷ whole_scalar 0 ∷ whole_scalar 3 ∷ []
+  -- truth tables, and the order of 0 and 1
+  pub conjunction : of_truths op.And ≡ truths false false false true
+  pub disjunction : of_truths op.Or ≡ truths false true true true
+  pub exclusion : of_truths op.Xor ≡ truths false true true false
+  pub less : cells_of op.Less (Ordinal ∷ Ordinal ∷ []) (firsts ∷ seconds ∷ []) 6 ≡ truths false true false false
   -- 725.5 as a direction, -2.9 as a class, and a scalar that is no class
   pub turned : cells_of op.ToDirectional (Scalar ∷ []) ((Val (pos 725500000) ∷ []) ∷ []) 1 ≡ Val (pos 5500000) ∷ []
-  pub cut : cells_of op.ToNominal (Scalar ∷ []) ((Val (negsuc 2899999) ∷ []) ∷ []) 1 ≡ Val (negsuc 1) ∷ []
-  pub too_large : over_of op.ToNominal (Scalar ∷ []) ((Val (pos 1) ∷ Val (pos 2147483648000000) ∷ []) ∷ []) 2 ≡ Some 1
+  pub cut : cells_of op.ToNominal (Scalar ∷ []) ((below_zero 2900000 ∷ []) ∷ []) 1 ≡ below_zero 2 ∷ []
+  pub too_large : over_of op.ToNominal (Scalar ∷ []) ((Val (pos 1) ∷ whole_scalar 2147483648 ∷ []) ∷ []) 2 ≡ Some 1
 
 -- ---- a program of one sum, `report C = A + A;`, over a grid of two columns
 
 -- its operation
 abbrev pub doubling : Operation
-doubling = record { op = op.Add; kind = Scalar; a = from.Input 0; b = from.Input 0; c = from.Unused; d = from.Unused; statement = 1; number = 1; kept = true }
+doubling = record {
+  op = op.Add;
+  kind = Scalar;
+  a = from.Input 0;
+  b = from.Input 0;
+  c = from.Unused;
+  d = from.Unused;
+  statement = 1;
+  number = 1;
+  kept = true;
+}
 
 -- the program
 abbrev pub doubled : Program
@@ -103,12 +135,18 @@ doubled = record {
 abbrev pub over_grid : List Cell → Known
 over_grid cells = record { rows = 1; cols = 2; maps = cells ∷ []; initial = [] }
 
+-- the Over of an operation of a statement at a step, in the second column
+abbrev pub over_in_column_two : ℕ → ℕ → ℕ → OverAt
+over_in_column_two step statement number = record { step = step; statement = statement; operation = number; row = 1; col = 2 }
+
 -- what its span gives
 pub record ProgramExamples : Type 0 where
   -- 1 and 2 give 2 and 4
-  pub within : stage_of doubled (whole_span doubled) (over_grid (Val (pos 1000000) ∷ Val (pos 2000000) ∷ [])) ≡ record { maps = record { step = 0; operation = 0; cells = Val (pos 2000000) ∷ Val (pos 4000000) ∷ [] } ∷ []; over = None }
-  -- 1 and 9,000,000,000,000 give the Over of step 0, statement 1, operation 1, row 1, column 2
-  pub beyond : stage_of doubled (whole_span doubled) (over_grid (Val (pos 1000000) ∷ Val (pos 9000000000000000000) ∷ [])) ≡ record { maps = []; over = Some (record { step = 0; statement = 1; operation = 1; row = 1; col = 2 }) }
+  pub within : stage_of doubled (whole_span doubled) (over_grid (whole_scalar 1 ∷ whole_scalar 2 ∷ []))
+    ≡ record { maps = record { step = 0; operation = 0; cells = whole_scalar 2 ∷ whole_scalar 4 ∷ [] } ∷ []; over = None }
+  -- 1 and 9,000,000,000,000 give an Over in the second column
+  pub beyond : stage_of doubled (whole_span doubled) (over_grid (whole_scalar 1 ∷ whole_scalar 9000000000000 ∷ []))
+    ≡ record { maps = []; over = Some (over_in_column_two 0 1 1) }
 
 -- ---- statements over whole maps
 
@@ -137,13 +175,31 @@ abbrev pub map_named : List ℕ → Result After OverAt → Result (List Cell) O
 map_named name (Ok after) = Ok (after.names name)
 map_named name (Err at) = Err at
 
+-- `C = A + A; D = C; C = C - A;`
+abbrev pub going_back : List Statement
+going_back =
+    statement (codes "C") op.Add grid grid
+    ∷ record { target = codes "D"; value = named (codes "C") }
+    ∷ statement (codes "C") op.Sub (named (codes "C")) grid
+    ∷ []
+
+-- `C = A - A; D = A * (A - C + A);`
+abbrev pub going_over : List Statement
+going_over =
+    statement (codes "C") op.Sub grid grid
+    ∷ statement (codes "D") op.Mul grid (tree.Call Scalar op.Add (tree.Call Scalar op.Sub (grid ∷ named (codes "C") ∷ []) ∷ grid ∷ []))
+    ∷ []
+
 -- what sections of statements give
 pub record SectionExamples : Type 0 where
-  -- `C = A + A; D = C; C = C - A;` gives C the cells of A, and D those that C had above
-  pub last : map_named (codes "C") (section_value (scene_over 0 (Val (pos 1000000)) (Val (pos 2000000))) 1 unassigned (statement (codes "C") op.Add grid grid ∷ record { target = codes "D"; value = named (codes "C") } ∷ statement (codes "C") op.Sub (named (codes "C")) grid ∷ [])) ≡ Ok (Val (pos 1000000) ∷ Val (pos 2000000) ∷ [])
-  pub above : map_named (codes "D") (section_value (scene_over 0 (Val (pos 1000000)) (Val (pos 2000000))) 1 unassigned (statement (codes "C") op.Add grid grid ∷ record { target = codes "D"; value = named (codes "C") } ∷ statement (codes "C") op.Sub (named (codes "C")) grid ∷ [])) ≡ Ok (Val (pos 2000000) ∷ Val (pos 4000000) ∷ [])
-  -- `C = A - A; D = A * (A - C + A);` over 1 and 9,000,000,000,000 at step 3: of the operations that are Over the first counts
-  pub first : map_named (codes "D") (section_value (scene_over 3 (Val (pos 1000000)) (Val (pos 9000000000000000000))) 1 unassigned (statement (codes "C") op.Sub grid grid ∷ statement (codes "D") op.Mul grid (tree.Call Scalar op.Add (tree.Call Scalar op.Sub (grid ∷ named (codes "C") ∷ []) ∷ grid ∷ [])) ∷ [])) ≡ Err (record { step = 3; statement = 2; operation = 2; row = 1; col = 2 })
+  -- C has the cells of A again, and D those that C had above
+  pub last : map_named (codes "C") (section_value (scene_over 0 (whole_scalar 1) (whole_scalar 2)) 1 unassigned going_back)
+    ≡ Ok (whole_scalar 1 ∷ whole_scalar 2 ∷ [])
+  pub above : map_named (codes "D") (section_value (scene_over 0 (whole_scalar 1) (whole_scalar 2)) 1 unassigned going_back)
+    ≡ Ok (whole_scalar 2 ∷ whole_scalar 4 ∷ [])
+  -- over 1 and 9,000,000,000,000 at step 3 the sum, which is the second operation of its statement, is Over before the product
+  pub first : map_named (codes "D") (section_value (scene_over 3 (whole_scalar 1) (whole_scalar 9000000000000)) 1 unassigned going_over)
+    ≡ Err (over_in_column_two 3 2 2)
 
 -- ---- kinds
 

@@ -1,5 +1,6 @@
 -- What holds of all operations, statements and programs.
-use Rattle.std.specs.Prelude.{◌≡◌, ◌≢◌, ◌<◌, ℕ, ◌+◌, ◌*◌, ℤ, pos, ◌+ℤ◌, ◌-ℤ◌, ◌*ℤ◌, ◌≤ℤ◌, ◌<ℤ◌, true, List, [], ◌∷◌, ◌++◌, length, All, AllPairs, Contains, Result, Ok, Err, IfSome, slice_get, ◌⊎◌, ⊤}
+use Rattle.std.specs.Prelude.{◌≡◌, ◌≢◌, ◌<◌, ℕ, ◌+◌, ◌*◌, ℤ, pos, ◌+ℤ◌, ◌-ℤ◌, ◌*ℤ◌, ◌≤ℤ◌, ◌<ℤ◌, true, ◌⊎◌, ⊤}
+use Rattle.std.specs.Prelude.{List, [], ◌∷◌, ◌++◌, length, slice_get, All, AllPairs, Contains, Result, Ok, Err, IfSome}
 use Rattle.text_base.specs.Results.{◌>>=◌}
 use Rattle.cell_values.specs.declared.kind.Kind.{Kind}
 use Rattle.cell_values.specs.declared.cell.Cell.TheVariants.{Mv}
@@ -53,13 +54,15 @@ HaveKindsAt kinds operands place = (i : ℕ) → i < length kinds → IsCell (ki
 abbrev pub LieInTheirKind : Type 0
 LieInTheirKind =
     (o : Op) (setting : Setting) (kind : Kind) (operands : List CellAt) (places place : ℕ) → HasKinds (row_of o) setting.kinds kind →
-    ((other : ℕ) → other < places → HaveKindsAt setting.kinds operands other) → place < places → LiesIn kind (outcome_of o setting operands place)
+    ((other : ℕ) → other < places → HaveKindsAt setting.kinds operands other) → place < places →
+    LiesIn kind (outcome_of o setting operands place)
 
 -- where one of its operands is missing, a result is missing, except where the policy on missing values says otherwise
 abbrev pub SpreadMissing : Type 0
 SpreadMissing =
     (o : Op) (setting : Setting) (operands : List CellAt) (place i : ℕ) →
-    spreads_missing o ≡ true → i < (row_of o).least → operand_at operands i place ≡ Mv → outcome_of o setting operands place ≡ Ok Mv
+    spreads_missing o ≡ true → i < (row_of o).least → operand_at operands i place ≡ Mv →
+    outcome_of o setting operands place ≡ Ok Mv
 
 -- ---- whole numbers
 
@@ -105,7 +108,8 @@ SectionsGoOn =
 abbrev pub OperationsGoOn : Type 0
 OperationsGoOn =
     (program : Program) (scene : Scene) (s : Span) (done : Done) (earlier later : List Operation) →
-    values_of program scene s done (earlier ++ later) ≡ values_of program scene s done earlier >>= λ after. values_of program scene s after later
+    values_of program scene s done (earlier ++ later)
+    ≡ values_of program scene s done earlier >>= λ after. values_of program scene s after later
 
 -- ---- the first Over
 

@@ -1,6 +1,7 @@
 -- The values of the operations on cells, each by its operands' cells at one place. Those of `+`, `-`, `*`, `/`, `idiv`
 -- and `mod` stand with the arithmetic of cells, those of the conversions with the kinds.
-use Rattle.std.specs.Prelude.{ℤ, pos, neg_ℤ, unsigned_abs, int_lt, int_le, Bool, true, false, not, ◌&&◌, ◌||◌, Ok, if◌then◌else◌}
+use Rattle.std.specs.Prelude.{ℤ, pos, neg_ℤ, unsigned_abs, int_lt, int_le, Ok}
+use Rattle.std.specs.Prelude.{Bool, true, false, not, ◌&&◌, ◌||◌, if◌then◌else◌}
 use Rattle.std.specs.Ordering.{int_eq}
 use Rattle.cell_values.specs.declared.kind.Kind.TheVariants.{Scalar}
 use Rattle.cell_values.specs.declared.cell.Cell.{Cell}

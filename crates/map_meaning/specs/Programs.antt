@@ -1,5 +1,6 @@
 -- Well-formed programs.
-use Rattle.std.specs.Prelude.{◌≡◌, ◌<◌, ◌≤◌, ℕ, ◌+◌, ◌==◌, Bool, true, false, List, [], ◌∷◌, length, All, AllPairs, IsTrue, Option, Some, None, IfSome, slice_get, option_map, ⊤, ◌⊎◌}
+use Rattle.std.specs.Prelude.{◌≡◌, ◌<◌, ◌≤◌, ℕ, ◌+◌, ◌==◌, Bool, true, false, IsTrue, ⊤, ◌⊎◌}
+use Rattle.std.specs.Prelude.{List, [], ◌∷◌, length, slice_get, All, AllPairs, Option, Some, None, IfSome, option_map}
 use Rattle.std.specs.List.{filter_map, list_all, list_any}
 use Rattle.text_base.specs.Words.{is_file_word}
 use Rattle.cell_values.specs.declared.kind.Kind.{Kind}

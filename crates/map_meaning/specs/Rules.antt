@@ -3,7 +3,8 @@ use Rattle.std.specs.Prelude.{ℕ, List, slice_index_or, Ok}
 use Rattle.cell_values.specs.declared.kind.Kind.{Kind}
 use Rattle.cell_values.specs.declared.kind.Kind.TheVariants.{Boolean, Nominal, Ordinal, Scalar, Directional}
 use Rattle.cell_values.specs.declared.cell.Cell.{Cell}
-use Rattle.cell_values.specs.Arithmetic.{scalar_sum, scalar_difference, scalar_product, scalar_quotient, scalar_whole_quotient, scalar_remainder}
+use Rattle.cell_values.specs.Arithmetic.{scalar_sum, scalar_difference, scalar_product}
+use Rattle.cell_values.specs.Arithmetic.{scalar_quotient, scalar_whole_quotient, scalar_remainder}
 use Rattle.cell_values.specs.Conversion.{conversion_of}
 use Rattle.tile_map.specs.Parts.{Outcome}
 use Rattle.map_meaning.specs.declared.op.Op.{Op}

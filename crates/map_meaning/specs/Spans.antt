@@ -1,5 +1,6 @@
 -- Spans of a program: what they read from outside themselves, and what they give.
-use Rattle.std.specs.Prelude.{◌≡◌, ◌<◌, ◌≤◌, ℕ, ◌+◌, ◌*◌, ◌==◌, List, [], ◌∷◌, length, Some, None, Result, Ok, Err, slice_range, if◌then◌else◌, ⊤}
+use Rattle.std.specs.Prelude.{◌≡◌, ◌<◌, ◌≤◌, ℕ, ◌+◌, ◌*◌, ◌==◌, if◌then◌else◌, ⊤}
+use Rattle.std.specs.Prelude.{List, [], ◌∷◌, length, slice_range, Some, None, Result, Ok, Err}
 use Rattle.text_base.specs.Limits.{most_cells}
 use Rattle.tile_map.specs.Parts.{tabulate}
 use Rattle.map_meaning.specs.declared.known.Known.{Known}
@@ -74,7 +75,8 @@ done_before (span.Initial first end) known = record { initial = tabulate (kept_m
 abbrev pub kept_maps : ℕ → List WholeMap → ℕ → List Operation → List StepMap
 kept_maps step maps n [] = []
 kept_maps step maps n (o ∷ more) =
-    if o.kept then record { step = step; operation = n; cells = nth maps n } ∷ kept_maps step maps (n + 1) more else kept_maps step maps (n + 1) more
+    if o.kept then record { step = step; operation = n; cells = nth maps n } ∷ kept_maps step maps (n + 1) more
+    else kept_maps step maps (n + 1) more
 
 -- what is told of a span of one step: its kept maps, or its first Over
 abbrev pub told_of : Program → Span → ℕ → Result Done OverAt → StageEnd
@@ -86,4 +88,5 @@ told_of program s step (Err at) = record { maps = []; over = Some at }
 unfoldable pub stage_of : Program → Span → Known → StageEnd
 stage_of program (span.Initial first end) known =
     told_of program (span.Initial first end) 0
-    (values_of program (scene_of known 0) (span.Initial first end) (done_before (span.Initial first end) known) (slice_range program.initial first end))
+      (values_of program (scene_of known 0) (span.Initial first end) (done_before (span.Initial first end) known)
+        (slice_range program.initial first end))

@@ -1,0 +1,8 @@
+//! Tests of models and their operations, as tables whose expected values were worked out by hand from the written rules.
+//! The crate has tests alone.
+#![tactic(auto)]
+
+#[cfg(test)]
+mod cells;
+#[cfg(test)]
+mod maps;
