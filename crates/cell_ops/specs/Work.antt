@@ -50,4 +50,4 @@ GiveTheMeaning =
     (op : Op) (setting : Setting) (operands : List CellAt) (place : ℕ) →
     outcome_of op setting operands place
     ≡ work_outcome (work_of op setting.kinds)
-      (operand_at operands 0 place) (operand_at operands 1 place) (operand_at operands 2 place) (operand_at operands 3 place)
+    (operand_at operands 0 place) (operand_at operands 1 place) (operand_at operands 2 place) (operand_at operands 3 place)

@@ -1,5 +1,6 @@
 -- What the crates above cite.
 use Rattle.std.proofs.Common.{◌≡◌, ℕ, ◌+◌, refl, true, List, [], ◌∷◌, ◌++◌, length, map, sym, ◌∙◌, ap, Ok, Err, Result, arith}
+use Rattle.std.specs.Prelude.{All}
 use Rattle.text_base.specs.Results.{◌>>=◌}
 use Rattle.cell_values.specs.declared.kind.Kind.{Kind}
 use Rattle.cell_values.specs.declared.kind.Kind.TheVariants.{Boolean, Nominal, Ordinal, Scalar, Directional, Ldd}
@@ -19,7 +20,9 @@ use Rattle.map_meaning.specs.Evaluation.{Done, value_of, values_of, with_map}
 use Rattle.map_meaning.specs.Maps.{WholeMap}
 use Rattle.map_meaning.specs.Scenes.{Scene}
 use Rattle.map_meaning.specs.Sections.{After, after_statements, assigned}
-use Rattle.map_meaning.specs.Table.{is_kind}
+use Rattle.map_meaning.specs.Laws.{IsItsRow}
+use Rattle.map_meaning.specs.Table.{is_kind, table_rows}
+use Rattle.map_meaning.proofs.RowLaws as rows
 use Rattle.map_meaning.specs.Trees.{TreeMeaning, meaning_of, meaning_level, value_of_tree}
 
 -- ---- an expression, one level at a time
@@ -61,6 +64,12 @@ pub after_statements-over : (scene : Scene) (number : ℕ) (after : After) (s : 
 after_statements-over scene number after s more m over means is =
     ap (λ (x : TreeMeaning). x.value (record { scene = scene; names = after.names; statement = number }) 0 >>= λ cells. after_statements scene (number + 1) (assigned after s cells) more) means
     ∙ ap (λ r. r >>= λ cells. after_statements scene (number + 1) (assigned after s cells) more) is
+
+-- ---- the table
+
+-- each row that means an operation is the row of that operation
+pub each_its_row : All IsItsRow table_rows
+each_its_row = rows.each_its_row
 
 -- ---- kinds
 

@@ -1,3 +1,4 @@
 pub mod Callers
 pub mod InKinds
 pub mod WholeMaps
+pub mod RowLaws

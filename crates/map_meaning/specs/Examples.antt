@@ -80,21 +80,21 @@ truths a b c d = truth a ∷ truth b ∷ truth c ∷ truth d ∷ Mv ∷ Mv ∷ [
 pub record CellExamples : Type 0 where
   -- `if(C then A else B)`, `if(C then A)`, `cover(A, B)`, `defined(A)`
   pub if_else : cells_of op.IfElse (Boolean ∷ Scalar ∷ Scalar ∷ []) (condition ∷ first_map ∷ second_map ∷ []) 3
-    ≡ whole_scalar 1 ∷ whole_scalar 5 ∷ Mv ∷ []
+      ≡ whole_scalar 1 ∷ whole_scalar 5 ∷ Mv ∷ []
   pub if_then : cells_of op.IfThen (Boolean ∷ Scalar ∷ []) (condition ∷ first_map ∷ []) 3 ≡ whole_scalar 1 ∷ Mv ∷ Mv ∷ []
   pub covered : cells_of op.Cover (Scalar ∷ Scalar ∷ []) (first_map ∷ second_map ∷ []) 3
-    ≡ whole_scalar 1 ∷ whole_scalar 5 ∷ whole_scalar 3 ∷ []
+      ≡ whole_scalar 1 ∷ whole_scalar 5 ∷ whole_scalar 3 ∷ []
   pub defined : cells_of op.Defined (Scalar ∷ []) (first_map ∷ []) 3 ≡ truth true ∷ truth false ∷ truth true ∷ []
   -- `1 / 0`, and a sum with a missing operand
   pub divided : cells_of op.Div (Scalar ∷ Scalar ∷ []) ((whole_scalar 1 ∷ []) ∷ (whole_scalar 0 ∷ []) ∷ []) 1 ≡ Mv ∷ []
   pub added : cells_of op.Add (Scalar ∷ Scalar ∷ []) ((Mv ∷ []) ∷ (whole_scalar 1 ∷ []) ∷ []) 1 ≡ Mv ∷ []
   -- whole numbers near -2.5, 2.5, -0.1 and 3
   pub down : cells_of op.RoundDown (Scalar ∷ []) (near_whole ∷ []) 4
-    ≡ below_zero 3000000 ∷ whole_scalar 2 ∷ below_zero 1000000 ∷ whole_scalar 3 ∷ []
+      ≡ below_zero 3000000 ∷ whole_scalar 2 ∷ below_zero 1000000 ∷ whole_scalar 3 ∷ []
   pub up : cells_of op.RoundUp (Scalar ∷ []) (near_whole ∷ []) 4
-    ≡ below_zero 2000000 ∷ whole_scalar 3 ∷ whole_scalar 0 ∷ whole_scalar 3 ∷ []
+      ≡ below_zero 2000000 ∷ whole_scalar 3 ∷ whole_scalar 0 ∷ whole_scalar 3 ∷ []
   pub off : cells_of op.RoundOff (Scalar ∷ []) (near_whole ∷ []) 4
-    ≡ below_zero 3000000 ∷ whole_scalar 3 ∷ whole_scalar 0 ∷ whole_scalar 3 ∷ []
+      ≡ below_zero 3000000 ∷ whole_scalar 3 ∷ whole_scalar 0 ∷ whole_scalar 3 ∷ []
   -- truth tables, and the order of 0 and 1
   pub conjunction : of_truths op.And ≡ truths false false false true
   pub disjunction : of_truths op.Or ≡ truths false true true true
@@ -143,10 +143,10 @@ over_in_column_two step statement number = record { step = step; statement = sta
 pub record ProgramExamples : Type 0 where
   -- 1 and 2 give 2 and 4
   pub within : stage_of doubled (whole_span doubled) (over_grid (whole_scalar 1 ∷ whole_scalar 2 ∷ []))
-    ≡ record { maps = record { step = 0; operation = 0; cells = whole_scalar 2 ∷ whole_scalar 4 ∷ [] } ∷ []; over = None }
+      ≡ record { maps = record { step = 0; operation = 0; cells = whole_scalar 2 ∷ whole_scalar 4 ∷ [] } ∷ []; over = None }
   -- 1 and 9,000,000,000,000 give an Over in the second column
   pub beyond : stage_of doubled (whole_span doubled) (over_grid (whole_scalar 1 ∷ whole_scalar 9000000000000 ∷ []))
-    ≡ record { maps = []; over = Some (over_in_column_two 0 1 1) }
+      ≡ record { maps = []; over = Some (over_in_column_two 0 1 1) }
 
 -- ---- statements over whole maps
 
@@ -194,12 +194,12 @@ going_over =
 pub record SectionExamples : Type 0 where
   -- C has the cells of A again, and D those that C had above
   pub last : map_named (codes "C") (section_value (scene_over 0 (whole_scalar 1) (whole_scalar 2)) 1 unassigned going_back)
-    ≡ Ok (whole_scalar 1 ∷ whole_scalar 2 ∷ [])
+      ≡ Ok (whole_scalar 1 ∷ whole_scalar 2 ∷ [])
   pub above : map_named (codes "D") (section_value (scene_over 0 (whole_scalar 1) (whole_scalar 2)) 1 unassigned going_back)
-    ≡ Ok (whole_scalar 2 ∷ whole_scalar 4 ∷ [])
+      ≡ Ok (whole_scalar 2 ∷ whole_scalar 4 ∷ [])
   -- over 1 and 9,000,000,000,000 at step 3 the sum, which is the second operation of its statement, is Over before the product
   pub first : map_named (codes "D") (section_value (scene_over 3 (whole_scalar 1) (whole_scalar 9000000000000)) 1 unassigned going_over)
-    ≡ Err (over_in_column_two 3 2 2)
+      ≡ Err (over_in_column_two 3 2 2)
 
 -- ---- kinds
 

@@ -27,7 +27,7 @@ abbrev pub onward : Program → Scene → Span → Done → List Operation → O
 onward program scene s done [] = record { done = done; notes = [] }
 onward program scene s done (o ∷ more) =
     with_notes (note_of scene o (operation_part program scene done o).over)
-      (onward program scene s (with_map s done (operation_part program scene done o).cells) more)
+    (onward program scene s (with_map s done (operation_part program scene done o).cells) more)
 
 -- the first Over is that of an earlier statement, or of an earlier operation of the same one, in the same step
 abbrev pub ComesBefore : OverAt → OverAt → Type 0

@@ -88,5 +88,5 @@ told_of program s step (Err at) = record { maps = []; over = Some at }
 unfoldable pub stage_of : Program → Span → Known → StageEnd
 stage_of program (span.Initial first end) known =
     told_of program (span.Initial first end) 0
-      (values_of program (scene_of known 0) (span.Initial first end) (done_before (span.Initial first end) known)
-        (slice_range program.initial first end))
+    (values_of program (scene_of known 0) (span.Initial first end) (done_before (span.Initial first end) known)
+    (slice_range program.initial first end))

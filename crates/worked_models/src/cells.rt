@@ -206,11 +206,21 @@ static CONVERSIONS: [(Kind, Kind, Cell, Want); 56] = [
     (Scalar, Boolean, Val(-1), Ok(Val(1))),
     (Scalar, Boolean, Mv, Ok(Mv)),
     (Scalar, Nominal, Val(-2_900_000), Ok(Val(-2))),
-    (Scalar, Nominal, Val(2_147_483_647_999_999), Ok(Val(2_147_483_647))),
+    (
+        Scalar,
+        Nominal,
+        Val(2_147_483_647_999_999),
+        Ok(Val(2_147_483_647)),
+    ),
     (Scalar, Nominal, Val(2_147_483_648_000_000), Err(Over)),
     (Scalar, Nominal, Mv, Ok(Mv)),
     (Scalar, Ordinal, Val(-2_900_000), Ok(Val(-2))),
-    (Scalar, Ordinal, Val(2_147_483_647_999_999), Ok(Val(2_147_483_647))),
+    (
+        Scalar,
+        Ordinal,
+        Val(2_147_483_647_999_999),
+        Ok(Val(2_147_483_647)),
+    ),
     (Scalar, Ordinal, Val(2_147_483_648_000_000), Err(Over)),
     (Scalar, Ordinal, Mv, Ok(Mv)),
     (Nominal, Nominal, Val(1), Ok(Val(1))),
@@ -263,10 +273,7 @@ fn conversion(from: Kind, to: Kind) -> Option<CellWork>
         (_, Kind::Ldd)
         | (Kind::Directional | Kind::Ldd, Kind::Boolean)
         | (Kind::Directional, Kind::Nominal | Kind::Ordinal)
-        | (
-            Kind::Boolean | Kind::Nominal | Kind::Ordinal | Kind::Ldd,
-            Kind::Directional,
-        ) => None,
+        | (Kind::Boolean | Kind::Nominal | Kind::Ordinal | Kind::Ldd, Kind::Directional) => None,
         _ => Some(CellWork::Convert { from, to }),
     }
 }
@@ -281,12 +288,24 @@ fn at_one_place(
 ) -> Result<Part, AllocError>
     requires { IsWork work }
 {
-    cell_part(alloc, work, 1, Arg::One(a), Arg::One(b), Arg::One(c), Arg::Unused)
+    cell_part(
+        alloc,
+        work,
+        1,
+        Arg::One(a),
+        Arg::One(b),
+        Arg::One(c),
+        Arg::Unused,
+    )
 }
 
 // Compares what came out at one place with what is wanted.
 fn compare(rt: &impl Abort, row: usize, part: &Part, want: Want) {
-    assert_eq!(rt; part.cells.as_slice(), [want.unwrap_or(Mv)].as_slice(), "row {row}");
+    assert_eq!(rt;
+        part.cells.as_slice(),
+        [want.unwrap_or(Mv)].as_slice(),
+        "row {row}"
+    );
     assert_eq!(rt; part.over.is_some(), want.is_err(), "row {row}");
 }
 
@@ -331,7 +350,14 @@ fn chooses(rt: HostRuntime) -> Result<(), Fail> {
 #[test]
 fn converts(rt: HostRuntime) -> Result<(), Fail> {
     for (row, (from, to, cell, want)) in CONVERSIONS.iter().enumerate() {
-        check(&rt, rt.alloc(), row, conversion(*from, *to), (*cell, Mv, Mv), *want)?;
+        check(
+            &rt,
+            rt.alloc(),
+            row,
+            conversion(*from, *to),
+            (*cell, Mv, Mv),
+            *want,
+        )?;
     }
     Ok(())
 }
