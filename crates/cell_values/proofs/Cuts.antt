@@ -120,7 +120,7 @@ cut_scaled c n d cut some lower is =
     zero_sum' c r some h = (zero_sum r c 0 some (omega (arith, h))).0
 
 -- behind some of the digits
-cut_inside : (front back : List ℕ) (cut : Cut) → are_digits back ≡ true → cut.size ≡ digits_value 10 front → cut.half ≡ nat_le 53 (get_or back 0 48) → cut.exact ≡ list_all is_zero back → IsCut (digits_value 10 (front ++ back)) (10 ^ length back) cut
+pub cut_inside : (front back : List ℕ) (cut : Cut) → are_digits back ≡ true → cut.size ≡ digits_value 10 front → cut.half ≡ nat_le 53 (get_or back 0 48) → cut.exact ≡ list_all is_zero back → IsCut (digits_value 10 (front ++ back)) (10 ^ length back) cut
 cut_inside front back cut p size half exact =
     let n = value-append front back in
     let below = below_power back p in
@@ -162,7 +162,7 @@ above_is v raised places = rw (pow-add 10 raised places) (product v (10 ^ raised
 common : (c n d n' d' : ℕ) (cut : Cut) → 0 < c → 0 < d → n' ≡ c * n → d' ≡ c * d → IsCut n d cut → IsCut n' d' cut
 common c n d n' d' cut some lower n_is d_is is = rw (n_is, d_is) (cut_scaled c n d cut some lower is)
 
-take_past : (n : ℕ) (xs : List ℕ) → length xs ≤ n → (take n xs ≡ xs) × (drop n xs ≡ [])
+pub take_past : (n : ℕ) (xs : List ℕ) → length xs ≤ n → (take n xs ≡ xs) × (drop n xs ≡ [])
 take_past n [] h = (cases n, cases' n)
   where
     cases : (n : ℕ) → (let none : List ℕ = [] in take n none ≡ none)
@@ -175,7 +175,7 @@ take_past n [] h = (cases n, cases' n)
 take_past zero (x ∷ xs) h = absurd (omega arith)
 take_past (suc n) (x ∷ xs) h = let more = take_past n xs (omega arith) in (ap (λ t. x ∷ t) more.0, more.1)
 
-take_none : (xs : List ℕ) → (take 0 xs ≡ []) × (drop 0 xs ≡ xs)
+pub take_none : (xs : List ℕ) → (take 0 xs ≡ []) × (drop 0 xs ≡ xs)
 take_none [] = (refl, refl)
 take_none (x ∷ xs) = (refl, refl)
 

@@ -5,7 +5,9 @@ pub mod DecimalLaws
 pub mod Digits
 pub mod Nearest
 pub mod PrintedBack
+pub mod FewDigits
 pub mod PrintedTokens
+pub mod Printing
 pub mod Readings
 pub mod Trim
 pub mod WrittenLaws

@@ -1,17 +1,28 @@
 //! Arithmetic on scalars.
 
-ghost use Rattle.std.specs.Prelude.{◌≡◌, ◌≢◌, ◌≤◌, ◌^◌, pos, ◌-ℤ◌, ◌*ℤ◌, unsigned_abs};
+ghost use Rattle.std.specs.Prelude.{MatchOption, Err, ◌≡◌, ◌≢◌, ◌≤◌, ◌^◌, pos, ◌-ℤ◌, ◌*ℤ◌, unsigned_abs};
 ghost use Rattle.cell_values.specs.declared.kind.Kind.TheVariants.{Scalar};
 ghost use Rattle.cell_values.specs.Units.{million};
-ghost use Rattle.cell_values.specs.Kinds.{IsCell};
+ghost use Rattle.cell_values.specs.Kinds.{IsCell, cell_of_number};
 ghost use Rattle.cell_values.specs.Rounding.{cut_quotient, nearest, nearest_quotient};
 ghost use Rattle.cell_values.specs.Arithmetic.{scalar_difference, scalar_product, scalar_quotient, scalar_remainder, scalar_sum, scalar_whole_quotient};
 
 use crate::cell::{Cell, Over};
 use crate::kind::Kind;
-use crate::range::to_cell;
+use crate::range::{GREATEST_SCALAR, LEAST_SCALAR, to_cell};
 use crate::rounding::{round_div, round_quotient};
 use crate::unit::MILLION;
+
+// The cell of a number, where it has 64 bits and is a scalar.
+#[inline]
+fn scalar_cell(number: Option<i64>) -> Result<Cell, Over>
+    ensures { MatchOption number (result ≡ Err (record {})) (λ n. result ≡ cell_of_number Scalar n) }
+{
+    match number {
+        Some(n) if LEAST_SCALAR <= n && n <= GREATEST_SCALAR => Ok(Cell::Val(n)),
+        _ => Err(Over),
+    }
+}
 
 /// The sum of two scalars. A missing operand gives a missing value; `Over` comes exactly where the sum is no
 /// scalar.
@@ -19,7 +30,7 @@ pub fn add(a: Cell, b: Cell) -> Result<Cell, Over>
     ensures { result ≡ scalar_sum a b }
 {
     match (a, b) {
-        (Cell::Val(a), Cell::Val(b)) => to_cell(Kind::Scalar, a as i128 + b as i128),
+        (Cell::Val(a), Cell::Val(b)) => scalar_cell(a.checked_add(b)),
         _ => Ok(Cell::Mv),
     }
 }
@@ -30,7 +41,7 @@ pub fn sub(a: Cell, b: Cell) -> Result<Cell, Over>
     ensures { result ≡ scalar_difference a b }
 {
     match (a, b) {
-        (Cell::Val(a), Cell::Val(b)) => to_cell(Kind::Scalar, a as i128 - b as i128),
+        (Cell::Val(a), Cell::Val(b)) => scalar_cell(a.checked_sub(b)),
         _ => Ok(Cell::Mv),
     }
 }

@@ -16,6 +16,7 @@ mod range;
 mod read;
 mod rounding;
 mod same;
+mod short;
 mod unit;
 mod word;
 
@@ -30,4 +31,5 @@ pub use range::{fits, to_cell};
 pub use read::{one_cell, printed_reads_back, read_cell};
 pub use rounding::{one_nearest, round_div};
 pub use same::same_decimal;
+pub use short::short_cell;
 pub use word::Word;

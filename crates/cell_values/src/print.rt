@@ -1,34 +1,23 @@
 //! The text of a cell.
 
-ghost use Rattle.std.specs.Prelude.{◌≡◌, ◌<◌, ◌++◌, ◌∷◌, length, take, OnOk, OnErr};
-ghost use Rattle.text_base.specs.Bytes.{point};
+ghost use Rattle.std.specs.Prelude.{◌≡◌, ◌+◌, ◌-◌, ◌<◌, ◌≤◌, ◌++◌, ◌^◌, decimal, drop, length, take, OnOk, OnErr};
 ghost use Rattle.cell_values.specs.Units.{million};
 ghost use Rattle.cell_values.specs.Written.{WrittenTextsAreUnique};
-ghost use Rattle.cell_values.specs.inside.Printed.{six_digits, trimmed, millionths_text, printed_cell};
+ghost use Rattle.cell_values.specs.inside.Printed.{fraction_text, millionths_text, printed_cell, signed, trimmed};
 
 use crate::cell::Cell;
 use crate::kind::Kind;
 use crate::unit::MILLION;
-use itoa::Buffer;
+use itoa::{Buffer, write_digits};
 use std::alloc::{AllocError, Global};
 
-// A point and the six digits of a fraction.
-fn fraction_digits(fraction: u64) -> [u8; 7]
-    requires { fraction < million }
-    ensures { result ≡ point ∷ six_digits fraction }
-{
-    [
-        b'.',
-        b'0' + (fraction / 100_000) as u8,
-        b'0' + (fraction / 10_000 % 10) as u8,
-        b'0' + (fraction / 1_000 % 10) as u8,
-        b'0' + (fraction / 100 % 10) as u8,
-        b'0' + (fraction / 10 % 10) as u8,
-        b'0' + (fraction % 10) as u8,
-    ]
-}
+/// The most bytes of a number of millionths, rounded up, and where its point stands among them.
+const MOST_BYTES: usize = 28;
+
+const POINT: usize = 21;
 
 // The digits without the zeros at their end.
+#[inline]
 fn without_zeros(digits: &[u8]) -> &[u8]
     ensures { result.now ≡ trimmed digits.now }
 {
@@ -42,20 +31,50 @@ fn without_zeros(digits: &[u8]) -> &[u8]
     rest
 }
 
-// Appends a number of millionths. After a refusal a part of it may stand behind what was there.
+// Writes a point and the digits of a fraction, or nothing where it is 0, from the place of the point
+// on, and tells where they end.
+#[inline(always)]
+fn put_fraction(part: u64, text: &mut [u8]) -> usize
+    requires part { part < million }
+    requires room { length text.old ≡ 28 }
+    ensures within { (21 ≤ result) × (result ≤ 28) }
+    ensures written { take (result - 21) (drop 21 text.new) ≡ fraction_text part }
+{
+    if part == 0 {
+        return POINT;
+    }
+    // The million puts a digit in the place of the point, and zeros before small fractions.
+    let _one = write_digits(MILLION + part, text, MOST_BYTES);
+    text[POINT] = b'.';
+    POINT + without_zeros(&text[POINT..MOST_BYTES]).len()
+}
+
+// Writes a whole number with its sign before the point, and tells where it starts.
+#[inline(always)]
+fn put_whole(negative: bool, whole: u64, text: &mut [u8]) -> usize
+    requires whole { whole < 10 ^ 14 }
+    requires room { length text.old ≡ 28 }
+    ensures start { result + length (signed negative (decimal whole)) ≡ 21 }
+    ensures written { drop result text.new ≡ signed negative (decimal whole) ++ drop 21 text.old }
+{
+    let start = write_digits(whole, text, POINT);
+    if !negative {
+        return start;
+    }
+    text[start - 1] = b'-';
+    start - 1
+}
+
+// Appends a number of millionths.
 fn print_millionths(value: i64, into: &mut Vec<u8>) -> Result<(), AllocError>
     ensures ok { OnOk result (into.new.items ≡ into.old.items ++ millionths_text value) }
-    ensures kept { take (length into.old.items) into.new.items ≡ into.old.items }
+    ensures err { OnErr result (into.new.items ≡ into.old.items) }
 {
     let size = value.unsigned_abs();
-    if value < 0 {
-        into.push(b'-')?;
-    }
-    into.extend_from_slice(Buffer::new().format(size / MILLION).as_bytes())?;
-    if size % MILLION != 0 {
-        into.extend_from_slice(without_zeros(&fraction_digits(size % MILLION)))?;
-    }
-    Ok(())
+    let mut text = [0u8; MOST_BYTES];
+    let end = put_fraction(size % MILLION, &mut text);
+    let start = put_whole(value < 0, size / MILLION, &mut text);
+    into.extend_from_slice(&text[start..end])
 }
 
 /// Appends the one text of a cell of a kind: `1e31` for a missing value, else a whole number, or for
@@ -73,14 +92,7 @@ pub fn print_cell(
         return into.extend_from_slice(b"1e31");
     };
     match kind {
-        Kind::Scalar | Kind::Directional => {
-            let before = into.len();
-            let printed = print_millionths(value, into);
-            if printed.is_err() {
-                into.truncate(before);
-            }
-            printed
-        }
+        Kind::Scalar | Kind::Directional => print_millionths(value, into),
         Kind::Boolean | Kind::Nominal | Kind::Ordinal | Kind::Ldd => {
             into.extend_from_slice(Buffer::new().format(value).as_bytes())
         }

@@ -4,14 +4,21 @@ ghost use Rattle.cell_values.specs.Kinds.{IsValue, cell_of_number, greatest, lea
 use crate::cell::{Cell, Over};
 use crate::kind::Kind;
 
+/// The least scalar, in millionths.
+pub(crate) const LEAST_SCALAR: i64 = -9_000_000_000_000_000_000;
+
+/// The greatest scalar, in millionths.
+pub(crate) const GREATEST_SCALAR: i64 = 9_000_000_000_000_000_000;
+
 // The least and the greatest value of a kind.
-fn bounds(kind: Kind) -> (i64, i64)
+#[inline(always)]
+pub(crate) fn bounds(kind: Kind) -> (i64, i64)
     ensures { result ≡ (least kind, greatest kind) }
 {
     match kind {
         Kind::Boolean => (0, 1),
         Kind::Nominal | Kind::Ordinal => (-2_147_483_647, 2_147_483_647),
-        Kind::Scalar => (-9_000_000_000_000_000_000, 9_000_000_000_000_000_000),
+        Kind::Scalar => (LEAST_SCALAR, GREATEST_SCALAR),
         Kind::Directional => (0, 359_999_999),
         Kind::Ldd => (1, 9),
     }

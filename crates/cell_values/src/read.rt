@@ -16,9 +16,7 @@ use crate::decimal::Parts;
 use crate::digit_row::Row;
 use crate::kind::Kind;
 use crate::range::to_cell;
-
-/// The digits behind the point that scalars and directions keep.
-const PLACES: usize = 6;
+use crate::unit::PLACES;
 
 /// A fraction cut to a whole number: whether what is cut off is a half or more, and whether it is 0.
 #[derive(Clone, Copy)]

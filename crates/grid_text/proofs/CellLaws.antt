@@ -5,11 +5,12 @@ use Rattle.cell_values.specs.declared.kind.Kind.{Kind}
 use Rattle.cell_values.specs.declared.cell.Cell.{Cell}
 use Rattle.grid_text.specs.declared.fault.GridFault.{GridFault}
 use Rattle.grid_text.specs.declared.fault.GridKind.TheVariants as kinds
-use Rattle.text_base.specs.Tokens.{Token}
+use Rattle.text_base.specs.Tokens.{Token, tokens_left}
 use Rattle.grid_text.specs.Form.{cell_of_token}
 use Rattle.grid_text.specs.Faults.{fault_at}
 use Rattle.text_base.specs.Results.{◌>>=◌}
 use Rattle.grid_text.specs.inside.Reading.{cell_or_fault_at, cells_from}
+use Rattle.grid_text.specs.inside.Steps.{BeginsWithFault, NoToken, NoCell}
 
 -- cells that were read, before those that are still read
 abbrev pub before : List Cell → Result (List Cell) GridFault → Result (List Cell) GridFault
@@ -46,6 +47,11 @@ module _ (kind : Kind) (nodata : List ℕ) (text_len : ℕ) (front : List Cell) 
   pub cell_missing : i < count → words ≡ [] → total ≡ Err (fault_at kinds.Count text_len)
   unfolding cells_from
   cell_missing lt none = sym (so_far_at (suc (count - (i + 1))) [] (left count i lt) none)
+
+  -- a fault at the front of what is left is that of the text
+  pub cell_fails : (bytes : List ℕ) (f : GridFault) → i < count → words ≡ tokens_left text_len bytes → BeginsWithFault kind nodata text_len bytes f → total ≡ Err f
+  cell_fails bytes f lt are (NoToken none is) = cell_missing lt (are ∙ none) ∙ ap (λ (g : GridFault). Err g) (sym is)
+  cell_fails bytes f lt are (NoCell token rest first read) = cell_refused token rest f lt (are ∙ first) read
 
   pub cell_beyond : (token : Token) (more : List Token) → count ≤ i → words ≡ token ∷ more → total ≡ Err (fault_at kinds.Count token.at)
   unfolding cells_from

@@ -7,6 +7,7 @@ pub mod CellFaults
 pub mod Laws
 pub mod GivenLaws
 pub mod CellLaws
+pub mod ShortLaws
 pub mod ValueLaws
 pub mod ReaderLaws
 pub mod BackLaws

@@ -1,20 +1,22 @@
 //! The cells of a grid text.
 
-ghost use Rattle.std.specs.Prelude.{◌≡◌, ◌≤◌, true, length};
+ghost use Rattle.std.specs.Prelude.{◌≡◌, ◌≤◌, IfSome, MatchResult, true, length};
 ghost use Rattle.cell_values.specs.inside.Reading.{cell_read};
 ghost use Rattle.grid_text.specs.declared.fault.GridKind.TheVariants as kinds;
 ghost use Rattle.grid_text.specs.Key.{is_nodata};
 ghost use Rattle.grid_text.specs.Form.{cell_of_token, is_missing};
 ghost use Rattle.grid_text.specs.Faults.{fault_at};
 ghost use Rattle.grid_text.specs.inside.Reading.{cells_from, cell_or_fault_at};
-ghost use Rattle.grid_text.specs.inside.Steps.{Gives, is_maybe_missing, number_of_cell};
-ghost use Rattle.text_base.specs.Tokens.{tokens_left};
+ghost use Rattle.grid_text.specs.inside.Steps.{BeginsWithCell, BeginsWithFault, EndsTokenBefore, Gives, is_maybe_missing, number_of_cell};
+ghost use Rattle.text_base.specs.Tokens.{IsEmptyOrToken, tokens_left};
 
 use crate::fault::{GridFault, GridKind, ReadGrid};
 use crate::key::is_nan;
-use cell_values::{Cell, Cells, Kind, NumberFault, is_decimal, read_cell, same_decimal};
+use cell_values::{
+    Cell, Cells, Kind, NumberFault, is_decimal, read_cell, same_decimal, short_cell,
+};
 use std::alloc::Global;
-use text_base::next_token;
+use text_base::{is_blank, next_token, skip_blanks};
 
 // A wrong number of cells.
 fn count_fault(at: u64) -> GridFault
@@ -108,6 +110,66 @@ fn cell_or_fault(at: u64, read: Result<Cell, NumberFault>) -> Result<Cell, GridF
     }
 }
 
+// The text behind the one blank that ends a token, where one does.
+#[inline(always)]
+fn behind_token(text: &[u8]) -> Option<&[u8]>
+    ensures { IfSome result (λ behind. EndsTokenBefore text.now behind.now) }
+{
+    match text.split_first() {
+        Some((first, behind)) if is_blank(*first) => Some(behind),
+        Some(_) => None,
+        None => Some(text),
+    }
+}
+
+// A cell of few digits at the front of these bytes that is not what the missing value is read as, and
+// the bytes behind it. Most cells are such: one pass finds both the end of the token and its value.
+#[inline(always)]
+fn leading_cell<'a>(
+    kind: Kind,
+    nodata: &[u8],
+    number: Option<i64>,
+    text_len: usize,
+    bytes: &'a [u8],
+) -> Option<(Cell, &'a [u8])>
+    requires prepared { number ≡ number_of_cell (cell_read kind nodata.now) }
+    requires within { length bytes.now ≤ text_len }
+    requires at_token { IsEmptyOrToken bytes.now }
+    ensures { IfSome result (λ found. BeginsWithCell kind nodata.now text_len bytes.now found.0 found.1.now) }
+{
+    let (value, len) = short_cell(kind, bytes)?;
+    let cell = Cell::Val(value);
+    if is_maybe_missing(number, Ok(cell)) {
+        return None;
+    }
+    Some((cell, behind_token(bytes.split_at(len).1)?))
+}
+
+// The first cell of these bytes in any form, and the bytes behind its token, or its fault.
+#[inline(never)]
+fn any_cell<'a>(
+    kind: Kind,
+    nodata: &[u8],
+    number: Option<i64>,
+    text_len: usize,
+    bytes: &'a [u8],
+) -> Result<(Cell, &'a [u8]), GridFault>
+    requires nodata { is_nodata nodata.now ≡ true }
+    requires prepared { number ≡ number_of_cell (cell_read kind nodata.now) }
+    requires within { length bytes.now ≤ text_len }
+    ensures { MatchResult result
+        (λ found. BeginsWithCell kind nodata.now text_len bytes.now found.0 found.1.now)
+        (λ fault. BeginsWithFault kind nodata.now text_len bytes.now fault) }
+{
+    let Some((token, behind)) = next_token(text_len, bytes) else {
+        return Err(count_fault(text_len as u64));
+    };
+    match cell_or_fault(token.at, cell_at(kind, nodata, number, token.bytes)) {
+        Ok(cell) => Ok((cell, behind)),
+        Err(fault) => Err(fault),
+    }
+}
+
 /// Reads just so many cells from the last bytes of a text of this length.
 pub fn read_cells(
     alloc: Global,
@@ -126,14 +188,19 @@ pub fn read_cells(
     let mut cells = Vec::with_capacity(alloc, count.min(bytes.len() / 2 + 1))?;
     let mut rest = bytes;
     for _ in 0..count {
-        let Some((token, behind)) = next_token(text_len, rest) else {
-            return Err(ReadGrid::Fault(count_fault(text_len as u64)));
-        };
-        match cell_or_fault(token.at, cell_at(kind, nodata, number, token.bytes)) {
-            Ok(cell) => cells.push(cell)?,
+        let front = skip_blanks(rest);
+        if let Some((cell, behind)) = leading_cell(kind, nodata, number, text_len, front) {
+            cells.push(cell)?;
+            rest = behind;
+            continue;
+        }
+        match any_cell(kind, nodata, number, text_len, front) {
+            Ok((cell, behind)) => {
+                cells.push(cell)?;
+                rest = behind;
+            }
             Err(fault) => return Err(ReadGrid::Fault(fault)),
         }
-        rest = behind;
     }
     if let Some((token, _)) = next_token(text_len, rest) {
         return Err(ReadGrid::Fault(count_fault(token.at)));

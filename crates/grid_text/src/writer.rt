@@ -12,6 +12,9 @@ use std::alloc::{AllocError, Global};
 /// The bytes of the head's lines without its words, rounded up.
 const HEAD: usize = 128;
 
+/// The most bytes of a cell and of what stands behind it: a sign, nineteen digits, a point and a blank.
+const MOST_BYTES_OF_A_CELL: usize = 22;
+
 fn put_line(key: &[u8], value: &[u8], out: &mut Vec<u8>) -> Result<(), AllocError>
     ensures { OnOk result (out.new.items ≡ out.old.items ++ key_line key.now value.now) }
 {
@@ -71,8 +74,8 @@ pub fn write_grid(
     requires count { length cells.now ≡ rows * cols }
     ensures { IfOk result (λ text. text.items ≡ written_grid kind rows cols head.now cells.now) }
 {
-    // A cell takes two bytes at least.
-    let mut out = Vec::with_capacity(alloc, HEAD + cells.len() * 2)?;
+    // Room that is not written takes no memory.
+    let mut out = Vec::with_capacity(alloc, HEAD + cells.len() * MOST_BYTES_OF_A_CELL)?;
     put_head(rows, cols, head, &mut out)?;
     put_line(b"NODATA_value", b"1e31", &mut out)?;
     let mut rest = cells;

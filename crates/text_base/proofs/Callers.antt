@@ -1,11 +1,12 @@
 -- What the crates above cite: cases, how tokens are found and stand, written numbers, and chains of steps that may fail.
-use Rattle.std.proofs.Common.{◌≡◌, ℕ, suc, ◌+◌, ◌-◌, ◌^◌, ◌<◌, ◌≤◌, Bool, true, false, eqb, cond, not, ◌&&◌, lit<, subst, List, [], ◌∷◌, ◌++◌, length, Some, None, Ok, Err, Result, refl, sym, ap, ◌∙◌, arith}
+use Rattle.std.proofs.Common.{◌≡◌, ℕ, suc, ◌+◌, ◌-◌, ◌^◌, ◌<◌, ◌≤◌, zero, take, drop, Bool, true, false, eqb, cond, not, ◌&&◌, lit<, subst, List, [], ◌∷◌, ◌++◌, length, Some, None, Ok, Err, Result, refl, sym, ap, ◌∙◌, arith}
 use Rattle.std.specs.declared.option.Option.{Option}
 use Rattle.std.specs.List.{list_all}
 use Rattle.std.specs.Prelude.{decimal, nat_le, nat_lt}
 use Rattle.std.specs.Char.{is_ascii_digit}
 use Rattle.std.specs.Str.Parse.{digits_value, AllDigits}
 use Rattle.std.proofs.lemmas.Bool.{and_parts, and_from, not-true, lt-ltb, le-leb, leb-true, ltb-true, ne_eqb}
+use Rattle.std.proofs.lemmas.List.{take-append-drop, length-take-le, length-drop}
 use Rattle.std.proofs.lemmas.Fmt.{decimal_is_IsNumeral, length-decimal-le}
 use Rattle.std.proofs.lemmas.Option.{cond_some}
 use Rattle.std.proofs.lemmas.Str.Parse.{digit_from_value}
@@ -13,7 +14,7 @@ use Rattle.text_base.specs.Numbers.{is_whole_number, whole_number_of}
 use Rattle.text_base.specs.Options as options
 use Rattle.text_base.specs.Results.{◌>>=◌}
 use Rattle.text_base.specs.Bytes.{is_blank}
-use Rattle.text_base.specs.Tokens.{Token, ends_token, joined, tokens_at, tokens_left, tokens}
+use Rattle.text_base.specs.Tokens.{IsEmptyOrToken, Token, ends_token, joined, tokens_at, tokens_left, tokens}
 use Rattle.text_base.specs.inside.Steps.{is_token_byte}
 
 -- ---- cases, each with the equation that it stands for
@@ -75,6 +76,33 @@ tokens_at-run at b (c ∷ cs) rest h e =
     ∙ (ap (λ a. joined at b a (tokens_at (at + 1) ((c ∷ cs) ++ rest))) (not-true (is_blank c) q.0)
     ∙ (ap (joined at b false) (tokens_at-run (at + 1) c cs rest p.1 e)
     ∙ ap (λ n. record { at = at; bytes = b ∷ c ∷ cs } ∷ tokens_at n rest) place))
+
+-- a blank in front leaves the same tokens
+pub tokens_left-blank : (text_len b : ℕ) (bytes : List ℕ) → is_blank b ≡ true → suc (length bytes) ≤ text_len → tokens_left text_len bytes ≡ tokens_left text_len (b ∷ bytes)
+unfolding tokens_left
+tokens_left-blank text_len b bytes h within =
+    let place : text_len - suc (length bytes) + 1 ≡ text_len - length bytes = omega arith in
+    sym (tokens_at-blank (text_len - suc (length bytes)) b bytes h ∙ ap (λ at. tokens_at at bytes) place)
+
+-- the first token of a text that begins with one, by its length
+pub tokens_at-token : (at : ℕ) (bytes : List ℕ) (n : ℕ) → n ≤ length bytes → 0 < length bytes → IsEmptyOrToken bytes → list_all is_token_byte (take n bytes) ≡ true → ends_token (drop n bytes) ≡ true
+    → tokens_at at bytes ≡ record { at = at; bytes = take n bytes } ∷ tokens_at (at + n) (drop n bytes)
+tokens_at-token at [] n within some front run end = absurd (omega arith)
+tokens_at-token at (b ∷ bs) zero within some front run end = absurd (cc)
+tokens_at-token at (b ∷ bs) (suc n) within some front run end =
+    let fits : n ≤ length bs = omega arith in
+    ap (tokens_at at) (sym (ap (λ xs. b ∷ xs) (take-append-drop n bs)))
+    ∙ tokens_at-run at b (take n bs) (drop n bs) run end
+    ∙ ap (λ k. record { at = at; bytes = b ∷ take n bs } ∷ tokens_at (at + suc k) (drop n bs)) (length-take-le n bs fits)
+
+-- the first token of the last bytes of a text
+pub tokens_left-token : (text_len : ℕ) (bytes : List ℕ) (n : ℕ) → n ≤ length bytes → 0 < length bytes → length bytes ≤ text_len → IsEmptyOrToken bytes → list_all is_token_byte (take n bytes) ≡ true → ends_token (drop n bytes) ≡ true
+    → tokens_left text_len bytes ≡ record { at = text_len - length bytes; bytes = take n bytes } ∷ tokens_left text_len (drop n bytes)
+unfolding tokens_left
+tokens_left-token text_len bytes n within some inside front run end =
+    let place : text_len - length bytes + n ≡ text_len - length (drop n bytes) = omega (arith, length-drop n bytes) in
+    tokens_at-token (text_len - length bytes) bytes n within some front run end
+    ∙ ap (λ at. record { at = text_len - length bytes; bytes = take n bytes } ∷ tokens_at at (drop n bytes)) place
 
 -- nothing is left at the end
 pub tokens_left-nil : (text_len : ℕ) → tokens_left text_len [] ≡ []

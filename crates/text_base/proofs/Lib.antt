@@ -1,6 +1,5 @@
 pub mod Callers
 pub mod Members
-pub mod TokenLaws
 pub mod TokensUnique
 pub mod LineLaws
 pub mod LinesUnique

@@ -9,9 +9,9 @@ use Rattle.std.proofs.lemmas.List.Kept.{AllPairs-cons}
 use Rattle.std.proofs.lemmas.List.Sums.{list_all-from_AllPass, prefix_len_passes, prefix_len_stops, prefix_len-le-length, prefix_len-drop_yes}
 use Rattle.text_base.specs.Bytes.{is_blank}
 use Rattle.text_base.specs.Tokens.{Token, place_behind, Covers, IsRun, AreTokens, ends_token, tokens_at, tokens, TokensAreUnique}
-use Rattle.text_base.specs.inside.Steps.{is_token_byte, IsEmptyOrToken}
-use Rattle.text_base.proofs.Callers.{bool_cases, tokens_at-blank}
-use Rattle.text_base.proofs.TokenLaws.{tokens_at-token}
+use Rattle.text_base.specs.inside.Steps.{is_token_byte}
+use Rattle.text_base.specs.Tokens.{IsEmptyOrToken}
+use Rattle.text_base.proofs.Callers.{bool_cases, tokens_at-blank, tokens_at-token}
 use Rattle.text_base.proofs.Members.{Any-head, Any-tail, same_by_members}
 
 -- ---- runs

@@ -1,6 +1,6 @@
 -- The tokens of a text: its longest runs of bytes that are no blanks.
 use Rattle.std.specs.Prelude.{◌≡◌, ◌↔◌, ℕ, ◌+◌, ◌-◌, ◌<◌, ◌≤◌, Bool, true}
-use Rattle.std.specs.Prelude.{false, ◌⊎◌, List, [], ◌∷◌, length, slice_index, slice_range, if◌then◌else◌}
+use Rattle.std.specs.Prelude.{false, ◌⊎◌, List, [], ◌∷◌, length, slice_index, slice_range, if◌then◌else◌, ⊤}
 use Rattle.std.specs.List.{All, AllPairs, Any}
 use Rattle.text_base.specs.declared.token.Token as slices
 use Rattle.text_base.specs.Bytes.{is_blank}
@@ -58,6 +58,11 @@ tokens text = tokens_at 0 text
 -- the tokens of the last bytes of a text of this length
 unfoldable pub tokens_left : ℕ → List ℕ → List Token
 tokens_left text_len bytes = tokens_at (text_len - length bytes) bytes
+
+-- a token stands at the front, if anything does
+abbrev pub IsEmptyOrToken : List ℕ → Type 0
+IsEmptyOrToken [] = ⊤
+IsEmptyOrToken (b ∷ bytes) = is_blank b ≡ false
 
 -- a token that is a slice of a text, as a token
 abbrev pub token_view : slices.Token → Token

@@ -8,7 +8,8 @@ ghost use Rattle.text_base.specs.Bytes.{is_blank, is_file_byte, is_letter, is_wo
 pub fn is_blank(byte: u8) -> bool
     ensures { result ≡ is_blank byte }
 {
-    matches!(byte, b' ' | b'\t' | b'\r' | b'\n')
+    // Most blanks are spaces, and most other bytes are above them.
+    byte == b' ' || (byte < b' ' && matches!(byte, b'\t' | b'\r' | b'\n'))
 }
 
 /// Whether the byte is a letter from `A` to `Z` or from `a` to `z`.

@@ -16,5 +16,5 @@ pub use byte::{is_blank, is_file_byte, is_letter, is_word_byte};
 pub use limits::{LONGEST_NUMBER, LONGEST_WORD, MOST_CELLS, MOST_SCRIPT_BYTES, MOST_TEXT_BYTES};
 pub use line::{Line, lines_are_unique, next_line};
 pub use number::whole_number;
-pub use token::{Token, next_token, tokens_are_unique};
+pub use token::{Token, ends_token, next_token, skip_blanks, tokens_are_unique};
 pub use word::is_file_word;

@@ -3,7 +3,8 @@
 ghost use Rattle.std.specs.Prelude.{◌≡◌, ◌<◌, ◌≤◌, ℕ, true, [], ◌∷◌, length, take, drop, MatchOption, IfSome};
 ghost use Rattle.std.specs.List.{list_all};
 ghost use Rattle.text_base.specs.Tokens.{ends_token, token_view, tokens_left, TokensAreUnique};
-ghost use Rattle.text_base.specs.inside.Steps.{is_token_byte, IsEmptyOrToken};
+ghost use Rattle.text_base.specs.inside.Steps.{is_token_byte};
+ghost use Rattle.text_base.specs.Tokens.{IsEmptyOrToken};
 
 use crate::byte::is_blank;
 
@@ -15,9 +16,20 @@ pub struct Token<'a> {
     pub bytes: &'a [u8],
 }
 
-// The text from its first token on.
-#[inline]
-fn skip_blanks(text: &[u8]) -> &[u8]
+/// Whether no token goes on into the text: a blank stands first, or nothing.
+#[inline(always)]
+pub fn ends_token(text: &[u8]) -> bool
+    ensures { result ≡ ends_token text.now }
+{
+    match text.split_first() {
+        Some((first, _)) => is_blank(*first),
+        None => true,
+    }
+}
+
+/// The text from its first token on.
+#[inline(always)]
+pub fn skip_blanks(text: &[u8]) -> &[u8]
     ensures shorter { length result.now ≤ length text.now }
     ensures same { (text_len : ℕ) → length text.now ≤ text_len → tokens_left text_len result.now ≡ tokens_left text_len text.now }
     ensures at_token { IsEmptyOrToken result.now }

@@ -1,6 +1,6 @@
 -- The one text of a cell as a function. What it means is said by the relation in `Written`, and a law ties it to that.
 use Rattle.std.specs.Prelude.{ℕ, ◌+◌, ◌/◌, ◌%◌, List, [], ◌∷◌, ◌++◌, codes, decimal, ℤ, pos, unsigned_abs, int_lt, ◌==◌}
-use Rattle.std.specs.Prelude.{if◌then◌else◌}
+use Rattle.std.specs.Prelude.{Bool, if◌then◌else◌}
 use Rattle.std.specs.Fmt.{signed_decimal}
 use Rattle.text_base.specs.Bytes.{hyphen, point, zero_digit}
 use Rattle.cell_values.specs.declared.cell.Cell.{Cell}
@@ -36,6 +36,10 @@ fraction_text n = if n == 0 then [] else point ∷ trimmed (six_digits n)
 -- so many millionths
 abbrev pub size_text : ℕ → List ℕ
 size_text n = decimal (n / million) ++ fraction_text (n % million)
+
+-- the text of a size, with its sign
+abbrev pub signed : Bool → List ℕ → List ℕ
+signed negative text = if negative then hyphen ∷ text else text
 
 -- so many millionths, with a sign where they are negative
 abbrev pub millionths_text : ℤ → List ℕ

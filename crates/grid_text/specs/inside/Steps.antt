@@ -1,26 +1,51 @@
 -- Words for the reader's own steps. What a reader of the crate is to believe stands in the files above.
-use Rattle.std.specs.Prelude.{◌≡◌, ℕ, ◌*◌, ◌≤◌, ℤ, Bool, true, false, List, [], length, map, nat_le, is_some, unwrap_or, Some, None}
+use Rattle.std.specs.Prelude.{◌≡◌, ℕ, ◌*◌, ◌≤◌, ℤ, Bool, true, false, List, [], ◌∷◌, length, map, nat_le, is_some, unwrap_or, Some, None}
 use Rattle.std.specs.Prelude.{Result, Ok, Err, if◌then◌else◌, ⊤}
 use Rattle.std.specs.declared.option.Option.{Option}
 use Rattle.std.specs.Ordering.{int_eq}
 use Rattle.std.specs.Option.{option_map, option_and_then, option_to_list, ok_or}
 use Rattle.text_base.specs.Limits.{most_cells}
 use Rattle.text_base.specs.Results.{◌>>=◌}
-use Rattle.text_base.specs.Tokens.{tokens, tokens_left}
+use Rattle.text_base.specs.Tokens.{Token, ends_token, tokens, tokens_left}
 use Rattle.cell_values.specs.declared.cell.Cell.{Cell}
 use Rattle.cell_values.specs.declared.cell.Cell.TheVariants.{Mv, Val}
 use Rattle.cell_values.specs.declared.cell.NumberFault.{NumberFault}
+use Rattle.cell_values.specs.declared.kind.Kind.{Kind}
 use Rattle.grid_text.specs.declared.head.Given as given
 use Rattle.grid_text.specs.declared.head.Place as place
 use Rattle.grid_text.specs.declared.head.Heading as heading
 use Rattle.grid_text.specs.declared.key.Key.{Key}
 use Rattle.grid_text.specs.declared.key.Key.TheVariants.{Cols, Rows, X, Y, Size, Nodata}
 use Rattle.grid_text.specs.declared.fault.GridFault.{GridFault}
+use Rattle.grid_text.specs.declared.fault.GridKind.TheVariants as kinds
 use Rattle.grid_text.specs.declared.fault.ReadGrid.{ReadGrid}
 use Rattle.grid_text.specs.declared.fault.ReadGrid.TheVariants.{Fault, Memory}
 use Rattle.grid_text.specs.Key.{is_center, side_of, is_coordinate, is_cell_size, is_nodata}
-use Rattle.grid_text.specs.Form.{Pair, default_nodata, pairs_of, values_of, placed}
-use Rattle.grid_text.specs.inside.Reading.{pairs_from, Heading}
+use Rattle.grid_text.specs.Form.{Pair, cell_of_token, default_nodata, pairs_of, values_of, placed}
+use Rattle.grid_text.specs.Faults.{fault_at}
+use Rattle.grid_text.specs.inside.Reading.{cell_or_fault_at, pairs_from, Heading}
+
+-- ---- tokens
+
+-- no token goes on into the text, and behind a blank at its front, if one stands there, are these bytes
+pub record EndsTokenBefore (text behind : List ℕ) : Type 0 where
+  pub ends : ends_token text ≡ true
+  pub shorter : length behind ≤ length text
+  pub same : (text_len : ℕ) → length text ≤ text_len → tokens_left text_len behind ≡ tokens_left text_len text
+
+-- the first token of the bytes writes this cell, and these are the bytes behind it
+pub record BeginsWithCell (kind : Kind) (nodata : List ℕ) (text_len : ℕ) (bytes : List ℕ) (cell : Cell) (behind : List ℕ) : Type 0 where
+  pub token : Token
+  pub first : tokens_left text_len bytes ≡ token ∷ tokens_left text_len behind
+  pub read : cell_or_fault_at token.at (cell_of_token kind nodata token.bytes) ≡ Ok cell
+  pub within : length behind ≤ text_len
+
+-- no cell stands at the front of the bytes: they have no token, or the first one is at fault
+pub data BeginsWithFault (kind : Kind) (nodata : List ℕ) (text_len : ℕ) (bytes : List ℕ) (fault : GridFault) : Type 0 where
+  NoToken : tokens_left text_len bytes ≡ [] → fault ≡ fault_at kinds.Count text_len
+      → BeginsWithFault kind nodata text_len bytes fault
+  NoCell : (token : Token) (rest : List Token) → tokens_left text_len bytes ≡ token ∷ rest
+      → cell_or_fault_at token.at (cell_of_token kind nodata token.bytes) ≡ Err fault → BeginsWithFault kind nodata text_len bytes fault
 
 -- ---- answers
 

@@ -1,16 +1,11 @@
 -- Words for the readers' own steps. What is to be believed stands in the files above.
-use Rattle.std.specs.Prelude.{◌≡◌, ◌<◌, ◌≤◌, ℕ, ◌+◌, Bool, false, not, List, [], ◌∷◌, ◌++◌, length, if◌then◌else◌, ⊤}
+use Rattle.std.specs.Prelude.{◌≡◌, ◌<◌, ◌≤◌, ℕ, ◌+◌, Bool, not, List, [], ◌∷◌, ◌++◌, length, if◌then◌else◌}
 use Rattle.text_base.specs.Bytes.{is_blank}
 use Rattle.text_base.specs.Lines.{Line, has_more_than_blanks, lines_at}
 
 -- a byte of a token
 abbrev pub is_token_byte : ℕ → Bool
 is_token_byte b = not (is_blank b)
-
--- a token stands at the front, if anything does
-abbrev pub IsEmptyOrToken : List ℕ → Type 0
-IsEmptyOrToken [] = ⊤
-IsEmptyOrToken (b ∷ bytes) = is_blank b ≡ false
 
 -- a line, where it has more than blanks
 abbrev pub kept : Line → List Line

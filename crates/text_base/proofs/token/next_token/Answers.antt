@@ -3,8 +3,7 @@ use Rattle.std.proofs.lemmas.Bool.{eqb-true, eqb-false}
 use Rattle.std.proofs.lemmas.List.{nil_from_length}
 use Rattle.text_base.specs.Tokens.{Token}
 use Rattle.text_base.specs.Tokens.{tokens_left}
-use Rattle.text_base.proofs.Callers.{tokens_left-nil}
-use Rattle.text_base.proofs.TokenLaws.{tokens_left-token}
+use Rattle.text_base.proofs.Callers.{tokens_left-nil, tokens_left-token}
 use Rattle.text_base.proofs.token.next_token.Goals as goal
 
 pub returns-then-is_empty-clause-tokens : goal.returns-then-is_empty-clause-tokens

@@ -1,6 +1,6 @@
 use Rattle.std.proofs.Common.{◌≤◌, suc, length, ap, sym, ◌∙◌, arith}
 use Rattle.text_base.specs.Tokens.{tokens_left}
-use Rattle.text_base.proofs.TokenLaws.{tokens_left-blank}
+use Rattle.text_base.proofs.Callers.{tokens_left-blank}
 use Rattle.text_base.proofs.token.skip_blanks.Goals as goal
 
 pub loop-first-preserved : goal.loop-first-preserved
