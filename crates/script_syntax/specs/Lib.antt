@@ -1,3 +1,9 @@
-pub mod PairForm
-pub mod Reading
+pub mod Answers
+pub mod Faults
+pub mod Grammar
+pub mod Listed
+pub mod Numbers
+pub mod Places
+pub mod Spelling
 pub mod Tokens
+pub mod inside

@@ -1,109 +1,106 @@
--- The tokens of a script text, as far as the pair form has them: a text with a comment, a number or another symbol has
--- none.
-use Rattle.std.specs.Prelude.{ℕ, zero, suc, Bool, ◌&&◌, ◌||◌, ◌==◌, ◌-◌, nat_le, if◌then◌else◌, List, [], ◌∷◌, length, take_while, codes, Option, Some, None}
-use Rattle.std.specs.Option.{option_map}
-use Rattle.std.specs.Str.{bytes_eq}
-use Rattle.script_syntax.specs.declared.token.Symbol.{Symbol}
-use Rattle.script_syntax.specs.declared.token.Symbol.TheVariants.{Equal, Plus, Semicolon}
+-- The tokens of a script text. Between them stand blanks and comments, and each is the longest that fits at its place.
+use Rattle.std.specs.Prelude.{◌≡◌, ◌<◌, ◌≤◌, ℕ, Bool, true, false, not, ◌==◌, List, [], ◌∷◌, ◌++◌, length}
+use Rattle.std.specs.List.{list_all}
+use Rattle.text_base.specs.Bytes.{is_blank, line_feed}
 use Rattle.script_syntax.specs.declared.token.Token.{Token}
-use Rattle.script_syntax.specs.declared.token.Token.TheVariants as tokens
-use Rattle.script_syntax.specs.declared.token.Mode.{Mode}
-use Rattle.script_syntax.specs.declared.token.Mode.TheVariants.{Bindings, BoundFile, AreaFile, Sections}
+use Rattle.script_syntax.specs.declared.place.Mode.{Mode}
+use Rattle.script_syntax.specs.declared.place.Mode.TheVariants.{Bindings}
+use Rattle.script_syntax.specs.declared.place.Place.{Place}
+use Rattle.script_syntax.specs.declared.scanner.Placed.{Placed}
+use Rattle.script_syntax.specs.Places.{first_place, after_bytes}
+use Rattle.script_syntax.specs.Spelling.{Spells, mode_after}
 
--- a space, a tab, a carriage return or a line feed
-abbrev pub is_blank : ℕ → Bool
-is_blank b = (b == 32) || (b == 9) || (b == 13) || (b == 10)
+-- the text ends behind its tokens, or there stands a byte that begins none
+pub data Ending : Type 0 where
+  Whole : Ending
+  Byte : Place → Ending
 
-abbrev pub is_digit : ℕ → Bool
-is_digit b = nat_le 48 b && nat_le b 57
+-- the tokens of a text and how they end
+pub record Scanned : Type 0 where
+  pub tokens : List Placed
+  pub ending : Ending
 
-abbrev pub is_letter : ℕ → Bool
-is_letter b = (nat_le 65 b && nat_le b 90) || (nat_le 97 b && nat_le b 122)
+-- ---- blanks and comments
 
--- a letter, a digit or `_`
-abbrev pub is_word_byte : ℕ → Bool
-is_word_byte b = is_letter b || is_digit b || (b == 95)
+-- `#`, which starts a comment
+abbrev pub hash : ℕ
+hash = 35
 
--- a letter, a digit, `_`, `.`, `-` or `+`
-abbrev pub is_file_byte : ℕ → Bool
-is_file_byte b = is_word_byte b || (b == 46) || (b == 45) || (b == 43)
+-- blanks and comments, each with the bytes behind its `#`
+pub data Gap : Type 0 where
+  no_gap : Gap
+  blank : ℕ → Gap → Gap
+  comment : List ℕ → Gap → Gap
 
--- the bytes of a token
-abbrev pub spelling : Token → List ℕ
-spelling (tokens.Word word) = word
-spelling (tokens.File word) = word
-spelling (tokens.Symbol Equal) = codes "="
-spelling (tokens.Symbol Plus) = codes "+"
-spelling (tokens.Symbol Semicolon) = codes ";"
+-- its bytes in front of the rest
+abbrev pub gap_on : Gap → List ℕ → List ℕ
+gap_on no_gap rest = rest
+gap_on (blank b g) rest = b ∷ gap_on g rest
+gap_on (comment bs g) rest = hash ∷ (bs ++ gap_on g rest)
 
--- `=` before those bytes: with a second `=` it is a longer token
-abbrev pub equal_before : List ℕ → Option Symbol
-equal_before [] = Some Equal
-equal_before (b ∷ bs) = if b == 61 then None else Some Equal
+-- a comment ends here: before a line feed, or at the end of the text
+abbrev pub EndsComment : List ℕ → Type 0
+EndsComment [] = Unit {0}
+EndsComment (b ∷ bs) = b ≡ line_feed
 
--- the symbol at the front of a text
-abbrev pub symbol_at : List ℕ → Option Symbol
-symbol_at [] = None
-symbol_at (b ∷ bs) = if b == 61 then equal_before bs else (if b == 43 then Some Plus else (if b == 59 then Some Semicolon else None))
+-- whether a byte may stand in a comment
+abbrev pub is_comment_byte : ℕ → Bool
+is_comment_byte b = not (b == line_feed)
 
--- the longest word at the front of a text, or else the symbol there
-abbrev pub plain_token_at : List ℕ → Option Token
-plain_token_at [] = None
-plain_token_at (b ∷ bs) = if is_letter b then Some (tokens.Word (b ∷ take_while is_word_byte bs)) else option_map tokens.Symbol (symbol_at (b ∷ bs))
+-- the blanks are blanks, and each comment goes to the end of its line
+abbrev pub IsGap : Gap → List ℕ → Type 0
+IsGap no_gap rest = Unit {0}
+IsGap (blank b g) rest = (is_blank b ≡ true) × IsGap g rest
+IsGap (comment bs g) rest = (list_all is_comment_byte bs ≡ true) × EndsComment (gap_on g rest) × IsGap g rest
 
--- the longest file word at the front of a text
-abbrev pub file_token_at : List ℕ → Option Token
-file_token_at [] = None
-file_token_at (b ∷ bs) = if is_word_byte b then Some (tokens.File (b ∷ take_while is_file_byte bs)) else None
+-- ---- tokens
 
--- the token at the front of a text
-abbrev pub token_at : Mode → List ℕ → Option Token
-token_at Bindings text = plain_token_at text
-token_at BoundFile text = file_token_at text
-token_at AreaFile text = file_token_at text
-token_at Sections text = plain_token_at text
+-- bytes that are this token stand at the front of a text, and no longer ones are a token
+pub record IsLongest (mode : Mode) (text bytes rest : List ℕ) (token : Token) : Type 0 where
+  pub parts : text ≡ bytes ++ rest
+  pub spells : Spells mode bytes token
+  pub longest : (others more : List ℕ) (other : Token) → Spells mode others other → text ≡ others ++ more → length others ≤ length bytes
 
--- what stands at the front of a text
-pub data Front : Type 0 where
-  blank : Front
-  token : Token → Front
-  other : Front
+-- the first token of a text that begins at this place, behind blanks and comments, and the rest behind it
+pub record IsNext (mode : Mode) (at : Place) (text : List ℕ) (t : Placed) : Type 0 where
+  pub gap : Gap
+  pub bytes : List ℕ
+  pub rest : List ℕ
+  pub is_gap : IsGap gap (bytes ++ rest)
+  pub parts : text ≡ gap_on gap (bytes ++ rest)
+  pub place : t.place ≡ after_bytes at (gap_on gap [])
+  pub token : IsLongest mode (bytes ++ rest) bytes rest t.token
+  pub len : t.len ≡ length bytes
 
-abbrev pub unblank : Option Token → Front
-unblank None = other
-unblank (Some t) = token t
+-- a text of blanks and comments alone
+pub record IsBlankText (text : List ℕ) : Type 0 where
+  pub gap : Gap
+  pub is_gap : IsGap gap []
+  pub parts : text ≡ gap_on gap []
 
--- what begins with this byte, before those
-abbrev pub front : Mode → ℕ → List ℕ → Front
-front mode b bs = if is_blank b then blank else unblank (token_at mode (b ∷ bs))
+-- behind blanks and comments stands a byte, at this place, that is no blank and begins no comment and no token
+pub record IsBadByte (mode : Mode) (at : Place) (text : List ℕ) (place : Place) : Type 0 where
+  pub gap : Gap
+  pub byte : ℕ
+  pub rest : List ℕ
+  pub is_gap : IsGap gap (byte ∷ rest)
+  pub parts : text ≡ gap_on gap (byte ∷ rest)
+  pub no_blank : is_blank byte ≡ false
+  pub no_comment : (byte == hash) ≡ false
+  pub no_token : (others more : List ℕ) (other : Token) → Spells mode others other → byte ∷ rest ≡ others ++ more → ⊥
+  pub is_at : place ≡ after_bytes at (gap_on gap [])
 
--- among the bindings `=` comes before a file place, and so does `areamap`
-abbrev pub mode_after : Mode → Token → Mode
-mode_after Bindings (tokens.Word word) = if bytes_eq word (codes "areamap") then AreaFile else Bindings
-mode_after Bindings (tokens.File word) = Bindings
-mode_after Bindings (tokens.Symbol Equal) = BoundFile
-mode_after Bindings (tokens.Symbol Plus) = Bindings
-mode_after Bindings (tokens.Symbol Semicolon) = Bindings
-mode_after BoundFile t = Bindings
-mode_after AreaFile t = Sections
-mode_after Sections t = Sections
+-- how a text without tokens ends
+abbrev pub Ends : Mode → Place → List ℕ → Ending → Type 0
+Ends mode at text Whole = IsBlankText text
+Ends mode at text (Byte place) = IsBadByte mode at text place
 
--- a token and then the others
-abbrev pub with_token : Token → Option (List Token) → Option (List Token)
-with_token t more = option_map (λ ts. t ∷ ts) more
+-- these are the tokens of a text that begins at this place, and how it ends
+abbrev pub AreTokensFrom : Mode → Place → List ℕ → List Placed → Ending → Type 0
+AreTokensFrom mode at text [] e = Ends mode at text e
+AreTokensFrom mode at text (t ∷ ts) e =
+    (n : IsNext mode at text t) × AreTokensFrom (mode_after mode t.token) (after_bytes t.place n.bytes) n.rest ts e
 
--- what stands at the front, and then the rest of the text, of which the first bytes belong to it
-abbrev pub at_front : Front → Mode → (ℕ → Mode → Option (List Token)) → Option (List Token)
-at_front blank mode rest = rest 0 mode
-at_front (token t) mode rest = with_token t (rest (length (spelling t) - 1) (mode_after mode t))
-at_front other mode rest = None
-
--- the tokens of a text of which the first bytes, as many as the number says, belong to what came before
-abbrev pub tokens_from : List ℕ → ℕ → Mode → Option (List Token)
-tokens_from [] n mode = Some []
-tokens_from (b ∷ bs) (suc n) mode = tokens_from bs n mode
-tokens_from (b ∷ bs) zero mode = at_front (front mode b bs) mode (λ n m. tokens_from bs n m)
-
--- the tokens of a script text, or none where a byte is no blank and begins no token
-abbrev pub tokens_of : List ℕ → Option (List Token)
-tokens_of text = tokens_from text 0 Bindings
+-- these are the tokens of a script text, and how it ends
+abbrev pub AreTokens : List ℕ → Scanned → Type 0
+AreTokens text s = AreTokensFrom Bindings first_place text s.tokens s.ending

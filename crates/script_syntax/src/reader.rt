@@ -1,101 +1,115 @@
-ghost use Rattle.std.specs.Prelude.{◌≡◌, Some, IfOk};
-ghost use Rattle.script_syntax.specs.PairForm.{IsPairForm, binding_of, pair_tree, sum_of};
-ghost use Rattle.script_syntax.specs.Reading.{ReadsScript, places_words, script_of, script_of_tokens, words_of};
+ghost use Rattle.std.specs.Prelude.{◌≡◌, ◌+◌, ◌≤◌, [], length, IfErr, IfOk, Ok, Err};
+ghost use Rattle.script_syntax.specs.declared.fault.SyntaxFault.{SyntaxFault};
+ghost use Rattle.script_syntax.specs.declared.tree.Script.{Script};
+ghost use Rattle.script_syntax.specs.Answers.{Reads, TellsFault};
+ghost use Rattle.script_syntax.specs.Faults.{IsFaulty, IsScript};
+ghost use Rattle.script_syntax.specs.inside.Reading.{fault_at, read_scanned, step_at, tree_of, tree_or_end};
+ghost use Rattle.script_syntax.specs.Listed.{counts_of};
+ghost use Rattle.script_syntax.specs.inside.Scanner.{scan_of};
+ghost use Rattle.script_syntax.specs.inside.Readings.{finish};
 
-use crate::fault::ReadScript;
-use crate::lexer::tokens_in;
-use crate::pair::{Places, places_in};
-use crate::token::Token;
-use crate::tree::{Binding, Expr, Script, Statement, Target};
-use crate::words::is_pair;
-use cell_values::Word;
-use sqlite_items::Items;
-use std::alloc::{AllocError, Global};
+use crate::counts::Counts;
+use crate::fault::{ReadScript, SyntaxFault, SyntaxKind};
+use crate::formula::Refused;
+use crate::place::Place;
+use crate::reading::Reading;
+use crate::scanner::{Next, Placed, Scanner};
+use crate::tree::Script;
+use std::alloc::Global;
 
-fn binding(alloc: Global, name: &Word, file: &Word) -> Result<Binding, AllocError>
-    ensures { IfOk result (λ binding. binding ≡ binding_of name.now file.now) }
+// The fault of this kind at a place.
+fn fault(place: Place, kind: SyntaxKind) -> ReadScript
+    ensures { result ≡ ReadScript.Syntax (fault_at place kind) }
 {
-    Ok(Binding {
-        name: name.twin(alloc)?,
-        target: Target::File(file.twin(alloc)?),
+    ReadScript::Syntax(SyntaxFault {
+        line: place.line,
+        column: place.column,
+        kind,
     })
 }
 
-// The bindings of the two rasters.
-fn bindings(alloc: Global, places: &Places) -> Result<Items<Binding>, AllocError>
-    ensures { IfOk result (λ bindings. bindings ≡ (pair_tree (words_of (places_words places.now))).bindings) }
+// What the end of a text gives, behind its last token.
+fn finish(reading: Reading, end: Place) -> Result<Script, ReadScript>
+    ensures { Reads result (tree_or_end (finish reading) end) }
 {
-    let mut bindings = Items::new(alloc);
-    bindings.push(binding(alloc, places.x, places.f)?)?;
-    bindings.push(binding(alloc, places.y, places.g)?)?;
-    Ok(bindings)
-}
-
-// The statement of the sum.
-fn sum(alloc: Global, places: &Places) -> Result<Statement, AllocError>
-    ensures { IfOk result (λ sum. sum ≡ sum_of (words_of (places_words places.now))) }
-{
-    let mut args = Items::new(alloc);
-    args.push(Expr::Name(places.x.twin(alloc)?))?;
-    args.push(Expr::Name(places.y.twin(alloc)?))?;
-    Ok(Statement {
-        report: true,
-        name: places.z.twin(alloc)?,
-        expr: Expr::Call {
-            word: Word::new(alloc, b"+")?,
-            args,
-        },
-    })
-}
-
-// The tree of a script in the pair form with these words.
-fn tree(alloc: Global, places: &Places) -> Result<Script, AllocError>
-    ensures { IfOk result (λ script. script ≡ pair_tree (words_of (places_words places.now))) }
-{
-    let mut initial = Items::new(alloc);
-    initial.push(sum(alloc, places)?)?;
-    Ok(Script {
-        bindings: bindings(alloc, places)?,
-        area: places.x.twin(alloc)?,
-        initial,
-    })
-}
-
-// The tree of a list of tokens in the pair form.
-#[tactic(auto, unfolding(crate::specs::Reading::script_of_tokens))]
-fn read_tokens(alloc: Global, tokens: &[Token]) -> Result<Script, ReadScript>
-    ensures { ReadsScript result (script_of_tokens tokens.now) }
-{
-    let Some(places) = places_in(tokens) else {
-        return Err(ReadScript::Unbuilt);
-    };
-    if !is_pair(&places) {
-        return Err(ReadScript::Unbuilt);
+    match reading.finish() {
+        Some(script) => Ok(script),
+        None => Err(fault(end, SyntaxKind::End)),
     }
-    Ok(tree(alloc, &places)?)
 }
 
-#[tactic(auto, unfolding(crate::specs::Reading::script_of))]
-fn read(alloc: Global, text: &[u8]) -> Result<Script, ReadScript>
-    ensures { ReadsScript result (script_of text.now) }
+// The reading with one more token, where these were counted before it.
+#[tactic(auto, unfolding(crate::specs::inside::Reading::step_at))]
+fn take(
+    alloc: Global,
+    reading: Reading,
+    counts: &Counts,
+    placed: Placed,
+) -> Result<Reading, ReadScript>
+    ensures { Reads result (step_at reading counts.now placed) }
 {
-    let tokens = tokens_in(alloc, text)?;
-    read_tokens(alloc, tokens.as_slice())
+    let Placed {
+        token,
+        place,
+        len: _,
+    } = placed;
+    if let Some(kind) = counts.fault(&token) {
+        return Err(fault(place, kind));
+    }
+    match reading.step(alloc, token) {
+        Ok(reading) => Ok(reading),
+        Err(Refused::Token) => Err(fault(place, SyntaxKind::Token)),
+        Err(Refused::Memory) => Err(ReadScript::Memory),
+    }
 }
 
-/// The tree of a script text in the pair form: the tokens `binding` X `=` F `;` Y `=` G `;` `areamap` X `;` `initial`
-/// `report` Z `=` X `+` Y `;`, with spaces, tabs, carriage returns and line feeds between them, and no comment.
-/// X, Y and Z are three different names, which are no reserved words; F and G are file words that are no decimals, and
-/// neither is equal to Z. Names and file words have at most 64 bytes.
+// What the tokens give that are left.
+fn read(alloc: Global, mut scanner: Scanner<'_>, mut reading: Reading) -> Result<Script, ReadScript>
+    requires line { scanner.place.line + length scanner.rest.now ≤ 268435457 }
+    requires column { scanner.place.column + length scanner.rest.now ≤ 268435457 }
+    ensures { Reads result (read_scanned reading (counts_of []) scanner.entry.place (scan_of scanner.entry)) }
+{
+    let mut counts = Counts::new();
+    let mut end = scanner.place;
+    'tokens: loop {
+        match scanner.next(alloc)? {
+            Next::Token(placed) => {
+                let counted = counts.after(&placed.token);
+                end = placed.end();
+                reading = take(alloc, reading, &counts, placed)?;
+                counts = counted;
+            }
+            Next::Byte(place) => return Err(fault(place, SyntaxKind::Byte)),
+            Next::End => return finish(reading, end),
+        }
+    }
+}
+
+// What a text gives.
+fn read_text(alloc: Global, text: &[u8]) -> Result<Script, ReadScript>
+    requires { length text.now ≤ 268435456 }
+    ensures { Reads result (tree_of text.now) }
+{
+    let reading = Reading::new(alloc)?;
+    read(alloc, Scanner::new(text), reading)
+}
+
+/// The tree of a script text of at most 268,435,456 bytes, or its first fault, in one pass over its bytes.
 ///
-/// `Unbuilt` comes exactly where the text is not in this form, and `Memory` where the tokens or the tree find no memory.
+/// `Syntax` comes exactly where the text is no script, with the line, the column and the kind of its first fault. Lines
+/// are counted by line feeds and columns by bytes, both from 1. `Memory` comes where the tree finds no memory.
 pub fn read_script(alloc: Global, text: &[u8]) -> Result<Script, ReadScript>
-    // What is read is in the pair form, and this is its tree.
-    ensures found { IfOk result (IsPairForm text.now) }
-    // The tree of a text in the pair form is read, unless memory runs out.
-    ensures only { (script : Script) → IsPairForm text.now script → ReadsScript result (Some script) }
+    requires { length text.now ≤ 268435456 }
+    // What is read is the tree of the text by the grammar.
+    ensures found { IfOk result (IsScript text.now) }
+    // The tree of a script is read, unless memory runs out.
+    ensures only { (tree : Script) → IsScript text.now tree → Reads result (Ok tree) }
+    // What is told is the first fault of the text.
+    ensures first { IfErr result (TellsFault text.now) }
+    // The first fault of a text is told, unless memory runs out.
+    ensures told { (fault : SyntaxFault) → IsFaulty text.now fault → Reads result (Err fault) }
     // Which answer comes.
-    ensures exact { ReadsScript result (script_of text.now) }
+    ensures exact { Reads result (tree_of text.now) }
 {
-    read(alloc, text)
+    read_text(alloc, text)
 }

@@ -1,67 +1,143 @@
-ghost use Rattle.std.specs.Prelude.{◌≡◌, length};
-ghost use Rattle.script_syntax.specs.Tokens.{mode_after, spelling};
+ghost use Rattle.std.specs.Prelude.{◌≡◌};
+ghost use Rattle.script_syntax.specs.Grammar.{operator_word};
+ghost use Rattle.script_syntax.specs.inside.Levels.{left_level, level_of, right_level};
 
 use cell_values::Word;
 
-/// A token that is a sign.
+/// How two values are compared.
 #[derive(Clone, Copy, Debug, PartialEq, Eq)]
-pub enum Symbol {
+pub enum Comparison {
     Equal,
+    Unequal,
+    Less,
+    AtMost,
+    Greater,
+    AtLeast,
+}
+
+/// The operators of sums.
+#[derive(Clone, Copy, Debug, PartialEq, Eq)]
+pub enum Sign {
     Plus,
+    Minus,
+}
+
+/// The operators of products.
+#[derive(Clone, Copy, Debug, PartialEq, Eq)]
+pub enum Factor {
+    Times,
+    Over,
+    WholeOver,
+    Modulo,
+}
+
+/// An operator with two operands. Its spellings are one operator.
+#[derive(Clone, Copy, Debug, PartialEq, Eq)]
+pub enum Operator {
+    Or,
+    Xor,
+    And,
+    Compare(Comparison),
+    Sum(Sign),
+    Product(Factor),
+}
+
+/// A word of the language that is no operator.
+#[derive(Clone, Copy, Debug, PartialEq, Eq)]
+pub enum Key {
+    Binding,
+    Areamap,
+    Timer,
+    Initial,
+    Dynamic,
+    Report,
+    If,
+    Then,
+    Else,
+}
+
+/// A sign between the parts of a script.
+#[derive(Clone, Copy, Debug, PartialEq, Eq)]
+pub enum Mark {
     Semicolon,
+    Equal,
+    Colon,
+    Comma,
+    Open,
+    Close,
 }
 
 /// A token of a script text.
 #[derive(Debug, Drop)]
 pub enum Token {
-    /// A letter, then letters, digits and `_`: a name or a key word.
-    Word(Word),
-    /// Letters, digits, `_`, `.`, `-` and `+` in a file place.
+    /// A letter, then letters, digits and `_`, no word of the language.
+    Name(Word),
+    /// A number; behind the `=` of an entry a decimal, which may have a sign.
+    Number(Word),
+    /// A file word, in a file place.
     File(Word),
-    Symbol(Symbol),
+    /// A run in a file place that may not stand there.
+    Stray,
+    /// `not`, `!` or `~`.
+    Not,
+    /// An operator; `-` is the sign of a number too.
+    Operator(Operator),
+    Key(Key),
+    Mark(Mark),
 }
 
-impl Token {
-    /// How many bytes it has in the text.
-    pub fn byte_len(&self) -> usize
-        ensures { result ≡ length (spelling self.now) }
+impl Operator {
+    /// The first of its spellings.
+    pub fn word(self) -> &'static [u8]
+        ensures { result.now ≡ operator_word self }
     {
         match self {
-            Token::Word(word) | Token::File(word) => word.bytes().len(),
-            Token::Symbol(_) => 1,
+            Operator::Or => b"or",
+            Operator::Xor => b"xor",
+            Operator::And => b"and",
+            Operator::Compare(Comparison::Equal) => b"==",
+            Operator::Compare(Comparison::Unequal) => b"!=",
+            Operator::Compare(Comparison::Less) => b"<",
+            Operator::Compare(Comparison::AtMost) => b"<=",
+            Operator::Compare(Comparison::Greater) => b">",
+            Operator::Compare(Comparison::AtLeast) => b">=",
+            Operator::Sum(Sign::Plus) => b"+",
+            Operator::Sum(Sign::Minus) => b"-",
+            Operator::Product(Factor::Times) => b"*",
+            Operator::Product(Factor::Over) => b"/",
+            Operator::Product(Factor::WholeOver) => b"idiv",
+            Operator::Product(Factor::Modulo) => b"mod",
         }
     }
-}
 
-/// Where in a script the next token stands, which says what a token is there.
-#[derive(Clone, Copy, Debug, PartialEq, Eq)]
-pub enum Mode {
-    /// Among the bindings.
-    Bindings,
-    /// Behind the `=` of a binding, where a file word is due.
-    BoundFile,
-    /// Behind `areamap`, where a file word is due.
-    AreaFile,
-    /// In the sections behind the area.
-    Sections,
-}
-
-impl Mode {
-    /// Where the next token stands, behind this one.
-    pub fn after(self, token: &Token) -> Mode
-        ensures { result ≡ mode_after self token.now }
+    /// How tightly it binds.
+    pub fn level(self) -> u8
+        ensures { result ≡ level_of self }
     {
-        match (self, token) {
-            (Mode::Bindings, Token::Word(word)) => {
-                if word.bytes() == b"areamap".as_slice() {
-                    Mode::AreaFile
-                } else {
-                    Mode::Bindings
-                }
-            }
-            (Mode::Bindings, Token::Symbol(Symbol::Equal)) => Mode::BoundFile,
-            (Mode::Bindings | Mode::BoundFile, _) => Mode::Bindings,
-            (Mode::AreaFile | Mode::Sections, _) => Mode::Sections,
+        match self {
+            Operator::Or => 1,
+            Operator::Xor => 2,
+            Operator::And => 3,
+            Operator::Compare(_) => 5,
+            Operator::Sum(_) => 6,
+            Operator::Product(_) => 7,
         }
+    }
+
+    /// How tightly its left operand is bound at least: chains group from the left, and a comparison is no chain.
+    pub fn left_level(self) -> u8
+        ensures { result ≡ left_level self }
+    {
+        match self {
+            Operator::Compare(_) => 6,
+            _ => self.level(),
+        }
+    }
+
+    /// How tightly its right operand is bound at least.
+    pub fn right_level(self) -> u8
+        ensures { result ≡ right_level self }
+    {
+        self.level() + 1
     }
 }

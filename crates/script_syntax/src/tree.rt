@@ -1,13 +1,19 @@
-use cell_values::Word;
+use cell_values::{Kind, Word};
 use sqlite_items::Items;
 
-/// A script: the names that it binds, the area that it covers, and its statements, all in the order of the text.
+/// A script: the names that it binds, the area that it covers, its last step, and the statements of its two sections,
+/// all in the order of the text.
 #[derive(Debug, Drop)]
 pub struct Script {
     pub bindings: Items<Binding>,
-    /// The file word behind `areamap`; in the pair form it is the first name that is bound.
+    /// The file word behind `areamap`: a name that is bound, or a file.
     pub area: Word,
+    /// The last step of `timer`, from 1 to 100,000; 0 exactly where there is no `timer`.
+    pub steps: u32,
+    /// The statements of the section `initial`.
     pub initial: Items<Statement>,
+    /// The statements of the section `dynamic`.
+    pub dynamic: Items<Statement>,
 }
 
 /// A name and what it stands for.
@@ -15,6 +21,8 @@ pub struct Script {
 pub struct Binding {
     pub name: Word,
     pub target: Target,
+    /// The kind behind `:`, where one is given.
+    pub kind: Option<Kind>,
 }
 
 /// What a name is bound to.
@@ -22,12 +30,14 @@ pub struct Binding {
 pub enum Target {
     /// The file of this name.
     File(Word),
+    /// This decimal.
+    Number(Word),
 }
 
 /// A name for the value of an expression.
 #[derive(Debug, Drop)]
 pub struct Statement {
-    /// Whether the value is written to the file of this name.
+    /// Whether the value is written.
     pub report: bool,
     pub name: Word,
     pub expr: Expr,
@@ -37,6 +47,8 @@ pub struct Statement {
 #[derive(Debug, Drop)]
 pub enum Expr {
     Name(Word),
-    /// An operation on the values of its operands. An operator is an operation whose word is its spelling.
+    Number(Word),
+    /// An operation on the values of its operands. An operator is an operation whose word is its first spelling, and
+    /// `if` is one with two or three operands. Brackets leave no node.
     Call { word: Word, args: Items<Expr> },
 }

@@ -1,8 +1,15 @@
-use Rattle.script_syntax.proofs.PairLaws.{found_in, only_in}
+use Rattle.std.proofs.Common.{Ok, Err}
+use Rattle.script_syntax.proofs.Callers.{found_in, told_in, only_in}
 use Rattle.script_syntax.proofs.reader.read_script.Goals as goal
 
-pub returns-clause-found : goal.returns-clause-found
-returns-clause-found c = found_in c.args.text.now c.read.result c.read.ensures
-
-pub returns-clause-only : goal.returns-clause-only
-returns-clause-only c = only_in c.args.text.now c.read.result c.read.ensures
+pub returns : goal.returns
+returns c =
+    let r = c.read_text.result in
+    let h = c.read_text.ensures in
+    record {
+      found = found_in c.args.text.now r h;
+      only = λ tree s. only_in c.args.text.now r h (Ok tree) s;
+      first = told_in c.args.text.now r h;
+      told = λ fault s. only_in c.args.text.now r h (Err fault) s;
+      exact = h;
+    }

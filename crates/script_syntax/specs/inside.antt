@@ -1,0 +1,9 @@
+pub mod Counting
+pub mod Formulas
+pub mod Levels
+pub mod Outcomes
+pub mod Reading
+pub mod Readings
+pub mod Runs
+pub mod Scanner
+pub mod Scanning
