@@ -1,3 +1,4 @@
 pub mod AnswerLemmas
 pub mod MapSumLemmas
+pub mod PairLemmas
 pub mod Rest

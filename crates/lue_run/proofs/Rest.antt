@@ -9,7 +9,8 @@ use Rattle.grid_text.specs.Written.{written_grid}
 use Rattle.script_syntax.specs.declared.tree.Script.{Script}
 use Rattle.lue_run.specs.declared.ended.Tally.{Tally}
 use Rattle.lue_run.specs.Ends.{ScriptEnd}
-use Rattle.lue_run.specs.PlainRun.{SumFiles, sum_files, or_unbuilt, grid_run, grid_sum, grids_run}
+use Rattle.lue_run.specs.PlainRun.{or_unbuilt, grid_run, grid_sum, grids_run}
+use Rattle.lue_run.specs.PairForm.{SumFiles, sum_files}
 
 -- one file was put, without a step
 abbrev pub done : Tally

@@ -3,6 +3,7 @@ pub mod Course
 pub mod Ends
 pub mod Lines
 pub mod MapSum
+pub mod PairForm
 pub mod PlainRun
 pub mod Words
 pub mod inside

@@ -6,12 +6,9 @@ use Rattle.cell_values.specs.declared.kind.Kind.TheVariants.{Scalar}
 use Rattle.outside_io.specs.Events.{Run}
 use Rattle.outside_io.specs.Runs.{◌>>=◌, settled, reading, putting, end_as}
 use Rattle.text_base.specs.Limits.{most_script_bytes, most_text_bytes}
-use Rattle.script_syntax.specs.declared.tree.Binding.{Binding}
 use Rattle.script_syntax.specs.declared.tree.Script.{Script}
-use Rattle.script_syntax.specs.declared.tree.Statement.{Statement}
-use Rattle.script_syntax.specs.declared.tree.Target.{Target}
-use Rattle.script_syntax.specs.declared.tree.Target.TheVariants.{File}
-use Rattle.script_syntax.specs.Reading.{script_of}
+use Rattle.script_syntax.specs.declared.fault.SyntaxFault.{SyntaxFault}
+use Rattle.script_syntax.specs.inside.Reading.{tree_of}
 use Rattle.grid_text.specs.declared.grid.Grid.{Grid}
 use Rattle.grid_text.specs.declared.fault.GridFault.{GridFault}
 use Rattle.grid_text.specs.inside.Reading.{grid_of}
@@ -20,6 +17,7 @@ use Rattle.lue_run.specs.declared.ended.InputKind.TheVariants as inputs
 use Rattle.lue_run.specs.declared.ended.OverAt.{OverAt}
 use Rattle.lue_run.specs.declared.ended.Tally.{Tally}
 use Rattle.lue_run.specs.Ends.{ScriptEnd, Missing, TooLong, Unbuilt, Input, Overflow, script_end}
+use Rattle.lue_run.specs.PairForm.{SumFiles, sum_files}
 use Rattle.lue_run.specs.inside.Sums.{sums_from}
 
 -- what a file's text stands for, or the end where it stands for nothing that is built
@@ -29,30 +27,16 @@ or_unbuilt name None = Err (Unbuilt name)
 
 -- ---- the script
 
--- the files of a sum: those of its two operands, and that of its result
-pub record SumFiles : Type 0 where
-  pub first : List ℕ
-  pub second : List ℕ
-  pub target : List ℕ
-
--- the file of a binding's target
-abbrev pub file_of : Target → List ℕ
-file_of (File name) = name
-
--- the files of two bindings and one statement
-abbrev pub sum_files_of : List Binding → List Statement → Option SumFiles
-sum_files_of (a ∷ b ∷ []) (statement ∷ []) = Some (record { first = file_of a.target; second = file_of b.target; target = statement.name })
-sum_files_of bindings statements = None
-
--- the files of a script that reports the sum of the two maps that it binds, as each script of the pair form does
-abbrev pub sum_files : Script → Option SumFiles
-sum_files script = sum_files_of script.bindings script.initial
+-- the tree of a text, or the end where the text has none
+abbrev pub tree_or_unbuilt : List ℕ → Result Script SyntaxFault → Result Script ScriptEnd
+tree_or_unbuilt name (Ok script) = Ok script
+tree_or_unbuilt name (Err fault) = Err (Unbuilt name)
 
 -- the script is read, then its text
 abbrev pub text_run : List ℕ → Run (Result Script ScriptEnd)
 text_run name = do
   text ← reading Missing TooLong name most_script_bytes
-  settled (or_unbuilt name (script_of text))
+  settled (tree_or_unbuilt name (tree_of text))
 
 -- ---- the grids
 

@@ -9,6 +9,7 @@ mod ended;
 mod files;
 mod line;
 mod map_sum;
+mod pair;
 mod plain;
 mod top;
 

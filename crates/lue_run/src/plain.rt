@@ -1,61 +1,36 @@
-ghost use Rattle.std.specs.Prelude.{◌≡◌, ◌<◌, ◌≤◌, length, MatchOption, IfOk, None, Some};
+ghost use Rattle.std.specs.Prelude.{◌≡◌, ◌<◌, ◌≤◌, length, IfOk};
 ghost use Rattle.text_base.specs.Limits.{most_cells, most_script_bytes, most_text_bytes};
 ghost use Rattle.outside_io.specs.Runs.{putting};
 ghost use Rattle.outside_io.specs.Met.{Meets};
 ghost use Rattle.lue_run.specs.Ends.{session_outcome, why};
-ghost use Rattle.lue_run.specs.PlainRun.{grid_run, grid_sum, grids_run, overflow_at, or_input, or_unbuilt, script_run, sum_files, sum_run, text_run};
+ghost use Rattle.lue_run.specs.PlainRun.{grid_run, grid_sum, grids_run, overflow_at, or_input, script_run, sum_run, text_run, tree_or_unbuilt};
 ghost use Rattle.lue_run.specs.inside.Parts.{GivesEnd, Makes};
 ghost use Rattle.lue_run.specs.inside.Values.{IsInputEnd, IsSized, IsUnbuilt, files_named};
 ghost use Rattle.cell_values.specs.declared.kind.Kind.TheVariants.{Scalar};
 ghost use Rattle.grid_text.specs.inside.Reading.{grid_of};
 ghost use Rattle.grid_text.specs.Written.{written_grid};
-ghost use Rattle.script_syntax.specs.Reading.{script_of};
+ghost use Rattle.script_syntax.specs.inside.Reading.{tree_of};
 
 use crate::ended::{InputKind, OverAt, SessionEnd, Tally};
 use crate::files::{fetch, store};
 use crate::map_sum::{SumEnd, sum_maps};
+use crate::pair::{SumFiles, sum_files_of};
 use cell_values::{Cells, Kind, Word};
 use grid_text::{Grid, ReadGrid, read_grid, write_grid};
 use outside_io::Folder;
-use script_syntax::{ReadScript, Script, Target, read_script};
+use script_syntax::{ReadScript, Script, read_script};
 use std::alloc::Global;
 use text_base::{MOST_SCRIPT_BYTES, MOST_TEXT_BYTES};
 
-/// The files of a sum: those of its two operands, and that of its result.
-#[derive(Drop)]
-pub struct SumFiles<'a> {
-    pub first: &'a Word,
-    pub second: &'a Word,
-    pub target: &'a Word,
-}
-
-// The files of a script that reports the sum of the two maps that it binds.
-fn sum_files_of(script: &Script) -> Option<SumFiles<'_>>
-    ensures { MatchOption result (sum_files script.now ≡ None) (λ files. sum_files script.now ≡ Some (files_named files)) }
-{
-    match (script.bindings.as_slice(), script.initial.as_slice()) {
-        ([a, b], [statement]) => {
-            let Target::File(first) = &a.target;
-            let Target::File(second) = &b.target;
-            Some(SumFiles {
-                first,
-                second,
-                target: &statement.name,
-            })
-        }
-        _ => None,
-    }
-}
-
-// The files of a script by its text.
+// The tree of a script by its text.
 fn parse_script(alloc: Global, name: &Word, text: &[u8]) -> Result<Script, SessionEnd>
     requires { length text.now ≤ most_script_bytes }
-    ensures { GivesEnd (or_unbuilt name.now (script_of text.now)) result }
+    ensures { GivesEnd (tree_or_unbuilt name.now (tree_of text.now)) result }
 {
     match read_script(alloc, text) {
         Ok(script) => Ok(script),
         Err(ReadScript::Memory) => Err(SessionEnd::Memory),
-        Err(ReadScript::Unbuilt) => Err(unbuilt(alloc, name)),
+        Err(ReadScript::Syntax(_)) => Err(unbuilt(alloc, name)),
     }
 }
 

@@ -1,11 +1,12 @@
 -- The ways out of a script.
-use Rattle.std.proofs.Common.{refl, ap}
+use Rattle.std.proofs.Common.{refl, sym, ap}
 use Rattle.std.specs.Prelude.{Ok, Result}
 use Rattle.outside_io.specs.Runs.{settled}
 use Rattle.outside_io.specs.Causes.{CameTo, why_by}
 use Rattle.outside_io.proofs.Callers.{meets_on, meets_out, meets_settled, meets_stop}
 use Rattle.lue_run.specs.Ends.{ScriptEnd, session_outcome, why}
-use Rattle.lue_run.specs.PlainRun.{SumFiles, grids_run, or_unbuilt, sum_files, sum_run, text_run}
+use Rattle.lue_run.specs.PlainRun.{grids_run, or_unbuilt, sum_run, text_run}
+use Rattle.lue_run.specs.PairForm.{SumFiles, sum_files}
 use Rattle.lue_run.specs.inside.Values.{files_named}
 use Rattle.lue_run.proofs.Rest.{after_script}
 use Rattle.lue_run.proofs.plain.make_sum.Goals as goal
@@ -25,5 +26,5 @@ returns g c =
     let outcome : Result SumFiles ScriptEnd = Ok files in
     meets_on why (text_run name) (after_script name) _ _ _ script _ c.in_ok-script.ensures
     (meets_on why (settled (or_unbuilt name (sum_files script))) grids_run _ _ _ files _
-    (meets_settled (why_by why) (or_unbuilt name (sum_files script)) state (CameTo outcome) (ap (or_unbuilt name) c.in-Some.ensures, refl))
+    (meets_settled (why_by why) (or_unbuilt name (sum_files script)) state (CameTo outcome) (ap (or_unbuilt name) (sym c.in-Some.ensures), refl))
     c.put_sum.ensures)
