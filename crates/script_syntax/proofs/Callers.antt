@@ -6,7 +6,9 @@ use Rattle.script_syntax.specs.declared.fault.ReadScript.TheVariants as errors
 use Rattle.script_syntax.specs.declared.fault.SyntaxFault.{SyntaxFault}
 use Rattle.script_syntax.specs.declared.tree.Script.{Script}
 use Rattle.script_syntax.specs.Answers.{Reads, TellsFault}
-use Rattle.script_syntax.specs.Faults.{IsScript, IsFaulty, IsExact}
+use Rattle.script_syntax.specs.Faults.{tokens_of, IsScript, IsFaulty, IsExact}
+use Rattle.script_syntax.specs.WellMade.{IsWellMade}
+use Rattle.script_syntax.proofs.Keeping.{derives-well_made}
 use Rattle.script_syntax.specs.inside.Reading.{tree_of}
 use Rattle.script_syntax.proofs.FaultLaws.{tree_of-exact, exact_is}
 
@@ -24,3 +26,12 @@ told_in text (Err errors.Memory) h = tt
 -- what is exact is answered
 pub only_in : (text : List ℕ) (r : Result Script ReadScript) → Reads r (tree_of text) → (has : Result Script SyntaxFault) → IsExact text has → Reads r has
 only_in text r h has e = subst (λ x. Reads r x) (exact_is text has e) h
+
+-- the tree of a script keeps the limits
+pub script_well_made : (text : List ℕ) (s : Script) → IsScript text s → IsWellMade s
+script_well_made text s h = derives-well_made (tokens_of h.scanned.tokens) s h.derives h.clean
+
+-- so does the tree that is answered
+pub made_in : (text : List ℕ) (r : Result Script ReadScript) → Reads r (tree_of text) → IfOk r IsWellMade
+made_in text (Ok tree) h = script_well_made text tree (subst (IsExact text) h (tree_of-exact text))
+made_in text (Err e) h = tt

@@ -4,6 +4,7 @@ pub mod Completing
 pub mod CountLaws
 pub mod FaultLaws
 pub mod FormulaPasts
+pub mod Keeping
 pub mod NumberLaws
 pub mod Pieces
 pub mod ReadSteps

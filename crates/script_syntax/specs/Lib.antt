@@ -6,4 +6,5 @@ pub mod Numbers
 pub mod Places
 pub mod Spelling
 pub mod Tokens
+pub mod WellMade
 pub mod inside

@@ -3,6 +3,7 @@ ghost use Rattle.script_syntax.specs.declared.fault.SyntaxFault.{SyntaxFault};
 ghost use Rattle.script_syntax.specs.declared.tree.Script.{Script};
 ghost use Rattle.script_syntax.specs.Answers.{Reads, TellsFault};
 ghost use Rattle.script_syntax.specs.Faults.{IsFaulty, IsScript};
+ghost use Rattle.script_syntax.specs.WellMade.{IsWellMade};
 ghost use Rattle.script_syntax.specs.inside.Reading.{fault_at, read_scanned, step_at, tree_of, tree_or_end};
 ghost use Rattle.script_syntax.specs.Listed.{counts_of};
 ghost use Rattle.script_syntax.specs.inside.Scanner.{scan_of};
@@ -108,6 +109,8 @@ pub fn read_script(alloc: Global, text: &[u8]) -> Result<Script, ReadScript>
     ensures first { IfErr result (TellsFault text.now) }
     // The first fault of a text is told, unless memory runs out.
     ensures told { (fault : SyntaxFault) → IsFaulty text.now fault → Reads result (Err fault) }
+    // The tree keeps the limits.
+    ensures made { IfOk result IsWellMade }
     // Which answer comes.
     ensures exact { Reads result (tree_of text.now) }
 {
