@@ -87,7 +87,7 @@ is_alike _ = false
 
 -- the place of the first operand that is asked to agree with others
 abbrev pub first_alike : Row → ℕ
-first_alike row = if is_alike (ask_at row 0) then 0 else if is_alike (ask_at row 1) then 1 else 2
+first_alike r = if is_alike (ask_at r 0) then 0 else if is_alike (ask_at r 1) then 1 else 2
 
 -- the kind in which the operands agree
 abbrev pub common_kind : Row → List Kind → Kind
