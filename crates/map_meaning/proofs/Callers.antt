@@ -16,7 +16,7 @@ use Rattle.map_meaning.specs.declared.tree.Tree.TheVariants as tree
 use Rattle.map_meaning.specs.declared.tree.Tree.TheVariants.{rolls-Call, rolls-Input, rolls-Name, rolls-Number}
 use Rattle.map_meaning.specs.declared.tree.Tree.TheFolds.{fold-roll-Tree}
 use Rattle.map_meaning.specs.declared.tree.Tree.TheOpen.{Tree-F}
-use Rattle.map_meaning.specs.Evaluation.{Done, value_of, values_of, with_map}
+use Rattle.map_meaning.specs.Evaluation.{Done, operation_value, operation_values, with_map}
 use Rattle.map_meaning.specs.Maps.{WholeMap}
 use Rattle.map_meaning.specs.Scenes.{Scene}
 use Rattle.map_meaning.specs.Sections.{After, after_statements, assigned}
@@ -131,9 +131,9 @@ after_statements-append scene number before (s ∷ more) later =
     ∙ ap (λ n. after_statements scene number before (s ∷ more) >>= λ after. after_statements scene n after later) same
 
 -- what operations give is what the later ones give behind the earlier ones
-pub values_of-append : (program : Program) (scene : Scene) (s : Span) (done : Done) (earlier later : List Operation) →
-    values_of program scene s done (earlier ++ later) ≡ values_of program scene s done earlier >>= λ after. values_of program scene s after later
-values_of-append program scene s done [] later = refl
-values_of-append program scene s done (o ∷ more) later =
-    next_two (value_of program scene done o) (λ m. values_of program scene s (with_map s done m) more) (λ after. values_of program scene s after later) (λ m. values_of program scene s (with_map s done m) (more ++ later))
-    (λ m. values_of-append program scene s (with_map s done m) more later)
+pub operation_values-append : (program : Program) (scene : Scene) (s : Span) (done : Done) (earlier later : List Operation) →
+    operation_values program scene s done (earlier ++ later) ≡ operation_values program scene s done earlier >>= λ after. operation_values program scene s after later
+operation_values-append program scene s done [] later = refl
+operation_values-append program scene s done (o ∷ more) later =
+    next_two (operation_value program scene done o) (λ m. operation_values program scene s (with_map s done m) more) (λ after. operation_values program scene s after later) (λ m. operation_values program scene s (with_map s done m) (more ++ later))
+    (λ m. operation_values-append program scene s (with_map s done m) more later)

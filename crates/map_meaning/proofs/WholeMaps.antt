@@ -19,10 +19,10 @@ use Rattle.map_meaning.specs.declared.program.Operand.{Operand}
 use Rattle.map_meaning.specs.declared.program.Operand.TheVariants.{Unused, Literal, Input, Initial}
 use Rattle.map_meaning.specs.declared.program.Operation.{Operation}
 use Rattle.map_meaning.specs.declared.program.Program.{Program}
-use Rattle.map_meaning.specs.Evaluation.{Done, operand_cell, operation_part, outcome_at, value_of, values_of, with_map}
+use Rattle.map_meaning.specs.Evaluation.{Done, operand_cell, operation_part, outcome_at, operation_value, operation_values, with_map}
 use Rattle.map_meaning.specs.Laws.{HaveKindsAt, IsWholeMap, LiesIn}
 use Rattle.map_meaning.specs.Maps.{CellAt, IsMapOf, WholeMap, nth}
-use Rattle.map_meaning.specs.Scenes.{Scene, places_of, setting_in}
+use Rattle.map_meaning.specs.Scenes.{Scene, place_count, setting_in}
 use Rattle.map_meaning.specs.Overs.{map_or_over}
 use Rattle.map_meaning.specs.Programs.{AreOperations, IsBelow, IsOperation, are_used_first, is_unused, kinds_of, operand_kind, operands_of}
 use Rattle.map_meaning.specs.Spans.{AreInputMaps, kept_maps}
@@ -94,23 +94,23 @@ there (x ∷ xs) (suc k) below = there xs k (omega arith)
 
 -- ---- operands
 
-module _ (program : Program) (scene : Scene) (n : ℕ) (done : Done) (inputs : AreInputMaps (places_of scene) program.inputs scene.inputs) (all : AreDone program (places_of scene) n done.initial) where
+module _ (program : Program) (scene : Scene) (n : ℕ) (done : Done) (inputs : AreInputMaps (place_count scene) program.inputs scene.inputs) (all : AreDone program (place_count scene) n done.initial) where
   -- an input's cell
-  input_cell : (k place : ℕ) (kind : Kind) (input : Option InputUse) → slice_get program.inputs k ≡ input → option_map (λ i. i.kind) input ≡ Some kind → place < places_of scene → IsCell kind (cell_at (nth scene.inputs k) place)
+  input_cell : (k place : ℕ) (kind : Kind) (input : Option InputUse) → slice_get program.inputs k ≡ input → option_map (λ i. i.kind) input ≡ Some kind → place < place_count scene → IsCell kind (cell_at (nth scene.inputs k) place)
   input_cell k place kind None is same below = absurd (cc)
   input_cell k place kind (Some input) is same below =
       let equal : input.kind ≡ kind = cc in
-      subst (λ j. IsCell j (cell_at (nth scene.inputs k) place)) equal (cell_in (places_of scene) place input.kind (nth scene.inputs k) (input_map (places_of scene) program.inputs scene.inputs k input inputs is) below)
+      subst (λ j. IsCell j (cell_at (nth scene.inputs k) place)) equal (cell_in (place_count scene) place input.kind (nth scene.inputs k) (input_map (place_count scene) program.inputs scene.inputs k input inputs is) below)
 
   -- an earlier operation's cell
-  done_cell : (k place : ℕ) (kind : Kind) (o : Option Operation) → k < n → slice_get program.initial k ≡ o → option_map (λ o. o.kind) o ≡ Some kind → place < places_of scene → IsCell kind (cell_at (nth done.initial k) place)
+  done_cell : (k place : ℕ) (kind : Kind) (o : Option Operation) → k < n → slice_get program.initial k ≡ o → option_map (λ o. o.kind) o ≡ Some kind → place < place_count scene → IsCell kind (cell_at (nth done.initial k) place)
   done_cell k place kind None before is same below = absurd (cc)
   done_cell k place kind (Some o) before is same below =
       let equal : o.kind ≡ kind = cc in
-      subst (λ j. IsCell j (cell_at (nth done.initial k) place)) equal (cell_in (places_of scene) place o.kind (nth done.initial k) (all.each k o before is) below)
+      subst (λ j. IsCell j (cell_at (nth done.initial k) place)) equal (cell_in (place_count scene) place o.kind (nth done.initial k) (all.each k o before is) below)
 
   -- an operand's cell is one of its kind
-  pub operand_in : (operand : Operand) (place : ℕ) (kind : Kind) → IsBelow program n operand → operand_kind program operand ≡ Some kind → place < places_of scene → IsCell kind (operand_cell scene done operand place)
+  pub operand_in : (operand : Operand) (place : ℕ) (kind : Kind) → IsBelow program n operand → operand_kind program operand ≡ Some kind → place < place_count scene → IsCell kind (operand_cell scene done operand place)
   operand_in Unused place kind below is within = absurd (cc)
   operand_in (Literal k cell) place kind below is within = let same : k ≡ kind = cc in subst (λ j. IsCell j cell) same below
   operand_in (Input k) place kind below is within = input_cell k place kind (slice_get program.inputs k) refl is within
@@ -135,7 +135,7 @@ module _ (program : Program) (scene : Scene) (n : ℕ) (done : Done) (inputs : A
   operand_before operand kind kinds cells place first rest (suc i) below = rest i (omega arith)
 
   -- one more operand in front, whose kind is looked up
-  operand_found : (operand : Operand) (kinds : List Kind) (cells : List CellAt) (place : ℕ) → IsBelow program n operand → ((kind : Kind) × (operand_kind program operand ≡ Some kind)) → place < places_of scene →
+  operand_found : (operand : Operand) (kinds : List Kind) (cells : List CellAt) (place : ℕ) → IsBelow program n operand → ((kind : Kind) × (operand_kind program operand ≡ Some kind)) → place < place_count scene →
       HaveKindsAt kinds cells place → HaveKindsAt (cons_option (operand_kind program operand) kinds) (operand_cell scene done operand ∷ cells) place
   operand_found operand kinds cells place below found within rest =
       subst (λ o. HaveKindsAt (cons_option o kinds) (operand_cell scene done operand ∷ cells) place) (sym found.1)
@@ -143,7 +143,7 @@ module _ (program : Program) (scene : Scene) (n : ℕ) (done : Done) (inputs : A
 
   module _ (enough : n ≤ length program.initial) where
     -- the cells of operands are of the operands' kinds
-    pub operands_in : (operands : List Operand) (place : ℕ) → are_used_first operands ≡ true → AllBelow operands → place < places_of scene → HaveKindsAt (filter_map (operand_kind program) operands) (map (operand_cell scene done) operands) place
+    pub operands_in : (operands : List Operand) (place : ℕ) → are_used_first operands ≡ true → AllBelow operands → place < place_count scene → HaveKindsAt (filter_map (operand_kind program) operands) (map (operand_cell scene done) operands) place
     operands_in [] place used below within = λ i under. absurd (omega arith)
     operands_in (Unused ∷ more) place used below within = λ i under. let none : length (filter_map (operand_kind program) more) ≡ 0 = ap length (no_kinds more used) in absurd (omega arith)
     operands_in (Literal kind cell ∷ more) place used below within =
@@ -159,9 +159,9 @@ module _ (program : Program) (scene : Scene) (n : ℕ) (done : Done) (inputs : A
     -- ---- the map of an operation
 
     -- the map of an operation has a cell for each place, of its kind
-    pub map_whole : (o : Operation) → IsOperation program n o → IsMapOf (places_of scene) o.kind (operation_part program scene done o).cells
+    pub map_whole : (o : Operation) → IsOperation program n o → IsMapOf (place_count scene) o.kind (operation_part program scene done o).cells
     unfolding operation_part
-    map_whole o is = part_whole (outcome_at program scene done o) (places_of scene) o.kind (λ place within. in_kind o.op (setting_in scene (kinds_of program o)) o.kind (map (operand_cell scene done) (operands_of o)) (places_of scene) place is.kinds (λ other below. operands_in (operands_of o) other is.used (is.a, (is.b, (is.c, (is.d, tt)))) below) within)
+    map_whole o is = part_whole (outcome_at program scene done o) (place_count scene) o.kind (λ place within. in_kind o.op (setting_in scene (kinds_of program o)) o.kind (map (operand_cell scene done) (operands_of o)) (place_count scene) place is.kinds (λ other below. operands_in (operands_of o) other is.used (is.a, (is.b, (is.c, (is.d, tt)))) below) within)
 
 -- ---- the maps of operations
 
@@ -176,27 +176,27 @@ gave scene statement number None cells m is = cc
 gave scene statement number (Some place) cells m is = absurd (cc)
 
 -- what some operations gave is done
-pub values_done : (program : Program) (scene : Scene) (first end n : ℕ) (done after : Done) (operations : List Operation) → AreInputMaps (places_of scene) program.inputs scene.inputs → AreDone program (places_of scene) n done.initial →
-    AreOperations program n operations → AreFrom program n operations → values_of program scene (span.Initial first end) done operations ≡ Ok after → AreDone program (places_of scene) (n + length operations) after.initial
+pub values_done : (program : Program) (scene : Scene) (first end n : ℕ) (done after : Done) (operations : List Operation) → AreInputMaps (place_count scene) program.inputs scene.inputs → AreDone program (place_count scene) n done.initial →
+    AreOperations program n operations → AreFrom program n operations → operation_values program scene (span.Initial first end) done operations ≡ Ok after → AreDone program (place_count scene) (n + length operations) after.initial
 values_done program scene first end n done after [] inputs all are from is =
     let same : done ≡ after = cc in
-    let P : Done → Type 0 = λ d. AreDone program (places_of scene) n d.initial in
-    let Q : ℕ → Type 0 = λ k. AreDone program (places_of scene) k after.initial in
+    let P : Done → Type 0 = λ d. AreDone program (place_count scene) n d.initial in
+    let Q : ℕ → Type 0 = λ k. AreDone program (place_count scene) k after.initial in
     subst Q (omega arith) (subst P same all)
 values_done program scene first end n done after (o ∷ more) inputs all are from is =
-    behind_first (value_of program scene done o) refl is (λ m next gives. values_done program scene first end (n + 1) (with_map (span.Initial first end) done m) after more inputs next are.1 from.1 gives)
+    behind_first (operation_value program scene done o) refl is (λ m next gives. values_done program scene first end (n + 1) (with_map (span.Initial first end) done m) after more inputs next are.1 from.1 gives)
   where
-    behind_first : (r : Result WholeMap OverAt) → value_of program scene done o ≡ r → (r >>= λ m. values_of program scene (span.Initial first end) (with_map (span.Initial first end) done m) more) ≡ Ok after →
-        ((m : WholeMap) → AreDone program (places_of scene) (n + 1) (done.initial ++ m ∷ []) → values_of program scene (span.Initial first end) (with_map (span.Initial first end) done m) more ≡ Ok after → AreDone program (places_of scene) (n + 1 + length more) after.initial) →
-        AreDone program (places_of scene) (n + length (o ∷ more)) after.initial
+    behind_first : (r : Result WholeMap OverAt) → operation_value program scene done o ≡ r → (r >>= λ m. operation_values program scene (span.Initial first end) (with_map (span.Initial first end) done m) more) ≡ Ok after →
+        ((m : WholeMap) → AreDone program (place_count scene) (n + 1) (done.initial ++ m ∷ []) → operation_values program scene (span.Initial first end) (with_map (span.Initial first end) done m) more ≡ Ok after → AreDone program (place_count scene) (n + 1 + length more) after.initial) →
+        AreDone program (place_count scene) (n + length (o ∷ more)) after.initial
     behind_first (Err at) value is later = absurd (cc)
     behind_first (Ok m) value is later =
         let part = operation_part program scene done o in
         let cells : part.cells ≡ m = gave scene o.statement o.number part.over part.cells m value in
         let enough : n < length program.initial = slice_get_within program.initial n o from.0 in
-        let whole : IsMapOf (places_of scene) o.kind m = subst (IsMapOf (places_of scene) o.kind) cells (map_whole program scene n done inputs all (omega (arith, enough)) o are.0) in
-        let next : AreDone program (places_of scene) (n + 1) (done.initial ++ m ∷ []) = one_more_done program (places_of scene) n done.initial o m all from.0 whole in
-        let Q : ℕ → Type 0 = λ k. AreDone program (places_of scene) k after.initial in
+        let whole : IsMapOf (place_count scene) o.kind m = subst (IsMapOf (place_count scene) o.kind) cells (map_whole program scene n done inputs all (omega (arith, enough)) o are.0) in
+        let next : AreDone program (place_count scene) (n + 1) (done.initial ++ m ∷ []) = one_more_done program (place_count scene) n done.initial o m all from.0 whole in
+        let Q : ℕ → Type 0 = λ k. AreDone program (place_count scene) k after.initial in
         let same : n + 1 + length more ≡ n + length (o ∷ more) = omega arith in
         subst Q same (later m next is)
 

@@ -13,7 +13,7 @@ use Rattle.map_meaning.specs.declared.program.Operation.{Operation}
 use Rattle.map_meaning.specs.declared.program.Program.{Program}
 use Rattle.map_meaning.specs.Maps.{WholeMap, CellAt, nowhere, nth}
 use Rattle.map_meaning.specs.Rules.{outcome_of}
-use Rattle.map_meaning.specs.Scenes.{Scene, places_of, setting_in}
+use Rattle.map_meaning.specs.Scenes.{Scene, place_count, setting_in}
 use Rattle.map_meaning.specs.Overs.{whole_or_over}
 use Rattle.map_meaning.specs.Programs.{kinds_of, operands_of}
 
@@ -42,13 +42,14 @@ outcome_at program scene done o = outcome_of o.op (setting_in scene (kinds_of pr
 
 -- the map of an operation, with a missing value where it is Over, and its first Over
 unfoldable pub operation_part : Program → Scene → Done → Operation → Part
-operation_part program scene done o = part_of (outcome_at program scene done o) (places_of scene)
+operation_part program scene done o = part_of (outcome_at program scene done o) (place_count scene)
 
 -- the map of an operation, or its first Over
-abbrev pub value_of : Program → Scene → Done → Operation → Result WholeMap OverAt
-value_of program scene done o = whole_or_over scene o.statement o.number (operation_part program scene done o)
+abbrev pub operation_value : Program → Scene → Done → Operation → Result WholeMap OverAt
+operation_value program scene done o = whole_or_over scene o.statement o.number (operation_part program scene done o)
 
 -- the maps of operations of a span in their order, or the first Over
-abbrev pub values_of : Program → Scene → Span → Done → List Operation → Result Done OverAt
-values_of program scene s done [] = Ok done
-values_of program scene s done (o ∷ more) = value_of program scene done o >>= λ m. values_of program scene s (with_map s done m) more
+abbrev pub operation_values : Program → Scene → Span → Done → List Operation → Result Done OverAt
+operation_values program scene s done [] = Ok done
+operation_values program scene s done (o ∷ more) =
+    operation_value program scene done o >>= λ m. operation_values program scene s (with_map s done m) more

@@ -16,7 +16,7 @@ use Rattle.map_meaning.specs.declared.program.Program.{Program}
 use Rattle.map_meaning.specs.declared.row.Meant.TheVariants as meant
 use Rattle.map_meaning.specs.declared.row.Row.{Row}
 use Rattle.map_meaning.specs.declared.tree.Statement.{Statement}
-use Rattle.map_meaning.specs.Evaluation.{Done, values_of}
+use Rattle.map_meaning.specs.Evaluation.{Done, operation_values}
 use Rattle.map_meaning.specs.Maps.{CellAt, IsMapOf, WholeMap}
 use Rattle.map_meaning.specs.Missing.{spreads_missing}
 use Rattle.map_meaning.specs.Onward.{ComesBefore, Onward, onward}
@@ -108,8 +108,8 @@ SectionsGoOn =
 abbrev pub OperationsGoOn : Type 0
 OperationsGoOn =
     (program : Program) (scene : Scene) (s : Span) (done : Done) (earlier later : List Operation) →
-    values_of program scene s done (earlier ++ later)
-    ≡ values_of program scene s done earlier >>= λ after. values_of program scene s after later
+    operation_values program scene s done (earlier ++ later)
+    ≡ operation_values program scene s done earlier >>= λ after. operation_values program scene s after later
 
 -- ---- the first Over
 
@@ -127,7 +127,7 @@ TellsLeast (Err at) o = IsLeastOf o.notes at
 abbrev pub TellTheLeastOver : Type 0
 TellTheLeastOver =
     (program : Program) (scene : Scene) (s : Span) (done : Done) (operations : List Operation) → AllPairs StandsBefore operations →
-    TellsLeast (values_of program scene s done operations) (onward program scene s done operations)
+    TellsLeast (operation_values program scene s done operations) (onward program scene s done operations)
 
 -- ---- kept maps
 

@@ -12,8 +12,8 @@ pub record Scene : Type 0 where
   pub inputs : List WholeMap
 
 -- how many places a map has
-abbrev pub places_of : Scene → ℕ
-places_of scene = scene.rows * scene.cols
+abbrev pub place_count : Scene → ℕ
+place_count scene = scene.rows * scene.cols
 
 -- what an operation on operands of these kinds is told there
 abbrev pub setting_in : Scene → List Kind → Setting

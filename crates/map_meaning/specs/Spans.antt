@@ -14,7 +14,7 @@ use Rattle.map_meaning.specs.declared.program.Operation.{Operation}
 use Rattle.map_meaning.specs.declared.program.Program.{Program}
 use Rattle.map_meaning.specs.Maps.{WholeMap, IsMapOf, nth}
 use Rattle.map_meaning.specs.Scenes.{Scene}
-use Rattle.map_meaning.specs.Evaluation.{Done, section_maps, values_of}
+use Rattle.map_meaning.specs.Evaluation.{Done, section_maps, operation_values}
 
 -- one run that a runner was asked for
 pub record RunOf : Type 0 where
@@ -88,5 +88,5 @@ told_of program s step (Err at) = record { maps = []; over = Some at }
 unfoldable pub stage_of : Program → Span → Known → StageEnd
 stage_of program (span.Initial first end) known =
     told_of program (span.Initial first end) 0
-    (values_of program (scene_of known 0) (span.Initial first end) (done_before (span.Initial first end) known)
+    (operation_values program (scene_of known 0) (span.Initial first end) (done_before (span.Initial first end) known)
     (slice_range program.initial first end))

@@ -11,7 +11,7 @@ use Rattle.map_meaning.specs.declared.tree.Tree.TheFolds.{fold-Tree}
 use Rattle.map_meaning.specs.declared.tree.Tree.TheOpen.{Tree-F}
 use Rattle.map_meaning.specs.Maps.{WholeMap, everywhere, nth}
 use Rattle.map_meaning.specs.Rules.{outcome_of}
-use Rattle.map_meaning.specs.Scenes.{Scene, places_of, setting_in}
+use Rattle.map_meaning.specs.Scenes.{Scene, place_count, setting_in}
 use Rattle.map_meaning.specs.Overs.{whole_or_over}
 
 -- the map of each name
@@ -46,12 +46,13 @@ values_from_left (m ∷ more) at before =
 -- order that is Over.
 abbrev pub applied : Site → Op → List Kind → List WholeMap → ℕ → Result WholeMap OverAt
 applied at op kinds maps number =
-    whole_or_over at.scene at.statement number (part_of (outcome_of op (setting_in at.scene kinds) (map cell_at maps)) (places_of at.scene))
+    whole_or_over at.scene at.statement number
+    (part_of (outcome_of op (setting_in at.scene kinds) (map cell_at maps)) (place_count at.scene))
 
 -- an expression, from what its operands mean
 abbrev pub meaning_level : Tree-F TreeMeaning → TreeMeaning
 meaning_level (Tree-F.Number kind cell) =
-    record { kind = kind; operations = 0; value = λ at before. Ok (everywhere (places_of at.scene) cell) }
+    record { kind = kind; operations = 0; value = λ at before. Ok (everywhere (place_count at.scene) cell) }
 meaning_level (Tree-F.Input kind input) =
     record { kind = kind; operations = 0; value = λ at before. Ok (nth at.scene.inputs input) }
 meaning_level (Tree-F.Name kind name) =

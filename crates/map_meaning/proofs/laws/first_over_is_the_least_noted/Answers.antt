@@ -6,7 +6,7 @@ use Rattle.map_meaning.specs.declared.known.OverAt.{OverAt}
 use Rattle.map_meaning.specs.declared.known.Span.{Span}
 use Rattle.map_meaning.specs.declared.program.Operation.{Operation}
 use Rattle.map_meaning.specs.declared.program.Program.{Program}
-use Rattle.map_meaning.specs.Evaluation.{Done, operation_part, values_of, with_map}
+use Rattle.map_meaning.specs.Evaluation.{Done, operation_part, operation_values, with_map}
 use Rattle.map_meaning.specs.Laws.{TellsLeast}
 use Rattle.map_meaning.specs.Maps.{WholeMap}
 use Rattle.map_meaning.specs.Onward.{ComesBefore, note_of, onward, with_notes}
@@ -55,9 +55,9 @@ comes_before scene o p place other stands = stands
 
 -- the outcome of the first operation, and what is told behind it
 told_behind : (program : Program) (scene : Scene) (s : Span) (done : Done) (o : Operation) (more : List Operation) (over : Option ℕ) (m : WholeMap) →
-    AllPairs StandsBefore (o ∷ more) → TellsLeast (values_of program scene s (with_map s done m) more) (onward program scene s (with_map s done m) more) →
-    TellsLeast (map_or_over scene o.statement o.number over m >>= λ m. values_of program scene s (with_map s done m) more) (with_notes (note_of scene o over) (onward program scene s (with_map s done m) more))
-told_behind program scene s done o more None m pairs behind = same_notes (values_of program scene s (with_map s done m) more) behind
+    AllPairs StandsBefore (o ∷ more) → TellsLeast (operation_values program scene s (with_map s done m) more) (onward program scene s (with_map s done m) more) →
+    TellsLeast (map_or_over scene o.statement o.number over m >>= λ m. operation_values program scene s (with_map s done m) more) (with_notes (note_of scene o over) (onward program scene s (with_map s done m) more))
+told_behind program scene s done o more None m pairs behind = same_notes (operation_values program scene s (with_map s done m) more) behind
   where
     same_notes : (r : Result Done OverAt) → TellsLeast r (onward program scene s (with_map s done m) more) → TellsLeast r (with_notes [] (onward program scene s (with_map s done m) more))
     same_notes (Ok d) h = h
@@ -72,7 +72,7 @@ told_behind program scene s done o more (Some place) m pairs behind =
     }
 
 -- the least is told, and what is told is the least
-tells : (program : Program) (scene : Scene) (s : Span) (done : Done) (operations : List Operation) → AllPairs StandsBefore operations → TellsLeast (values_of program scene s done operations) (onward program scene s done operations)
+tells : (program : Program) (scene : Scene) (s : Span) (done : Done) (operations : List Operation) → AllPairs StandsBefore operations → TellsLeast (operation_values program scene s done operations) (onward program scene s done operations)
 tells program scene s done [] pairs = (refl, refl)
 tells program scene s done (o ∷ more) pairs =
     let part = operation_part program scene done o in

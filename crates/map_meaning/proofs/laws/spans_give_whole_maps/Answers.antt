@@ -7,7 +7,7 @@ use Rattle.map_meaning.specs.declared.known.OverAt.{OverAt}
 use Rattle.map_meaning.specs.declared.known.Span.TheVariants as span
 use Rattle.map_meaning.specs.declared.program.Operation.{Operation}
 use Rattle.map_meaning.specs.declared.program.Program.{Program}
-use Rattle.map_meaning.specs.Evaluation.{Done, values_of}
+use Rattle.map_meaning.specs.Evaluation.{Done, operation_values}
 use Rattle.map_meaning.specs.Laws.{IsWholeMap}
 use Rattle.map_meaning.specs.Programs.{IsWellFormed}
 use Rattle.map_meaning.specs.declared.known.StepMap.{StepMap}
@@ -33,7 +33,7 @@ told_maps operations (Err at) = []
 
 -- the maps that are told are whole
 told_whole : (program : Program) (known : Known) (end : ℕ) (r : Result Done OverAt) → IsWellFormed program → AreInputMaps (known.rows * known.cols) program.inputs known.maps →
-    values_of program (scene_of known 0) (span.Initial 0 end) (record { initial = [] }) program.initial ≡ r → All (IsWholeMap program (known.rows * known.cols)) (told_maps program.initial r)
+    operation_values program (scene_of known 0) (span.Initial 0 end) (record { initial = [] }) program.initial ≡ r → All (IsWholeMap program (known.rows * known.cols)) (told_maps program.initial r)
 told_whole program known end (Err at) formed inputs is = All-nil (IsWholeMap program (known.rows * known.cols))
 told_whole program known end (Ok done) formed inputs is =
     let places = known.rows * known.cols in
@@ -50,9 +50,9 @@ stage_whole : (program : Program) (known : Known) → IsWellFormed program → A
 unfolding stage_of
 stage_whole program known formed inputs =
     let end = length program.initial in
-    let P : List Operation → Type 0 = λ ops. All (IsWholeMap program (known.rows * known.cols)) (told_maps ops (values_of program (scene_of known 0) (span.Initial 0 end) (record { initial = [] }) ops)) in
-    same_maps (values_of program (scene_of known 0) (span.Initial 0 end) (record { initial = [] }) (slice_range program.initial 0 end))
-    (subst P (sym (whole_range program.initial)) (told_whole program known end (values_of program (scene_of known 0) (span.Initial 0 end) (record { initial = [] }) program.initial) formed inputs refl))
+    let P : List Operation → Type 0 = λ ops. All (IsWholeMap program (known.rows * known.cols)) (told_maps ops (operation_values program (scene_of known 0) (span.Initial 0 end) (record { initial = [] }) ops)) in
+    same_maps (operation_values program (scene_of known 0) (span.Initial 0 end) (record { initial = [] }) (slice_range program.initial 0 end))
+    (subst P (sym (whole_range program.initial)) (told_whole program known end (operation_values program (scene_of known 0) (span.Initial 0 end) (record { initial = [] }) program.initial) formed inputs refl))
   where
     same_maps : (r : Result Done OverAt) → All (IsWholeMap program (known.rows * known.cols)) (told_maps (slice_range program.initial 0 (length program.initial)) r) → All (IsWholeMap program (known.rows * known.cols)) (told_of program (span.Initial 0 (length program.initial)) 0 r).maps
     same_maps (Ok done) all = all
