@@ -2,3 +2,4 @@ pub mod Callers
 pub mod InKinds
 pub mod WholeMaps
 pub mod RowLaws
+pub mod NearWhole

@@ -1,6 +1,6 @@
 -- What holds of all operations, statements and programs.
-use Rattle.std.specs.Prelude.{◌≡◌, ◌≢◌, ◌<◌, ℕ, ◌+◌, ◌*◌, ℤ, pos, ◌+ℤ◌, ◌-ℤ◌, ◌*ℤ◌, ◌≤ℤ◌, ◌<ℤ◌, true, ◌⊎◌, ⊤}
-use Rattle.std.specs.Prelude.{List, [], ◌∷◌, ◌++◌, length, slice_get, All, AllPairs, Contains, Result, Ok, Err, IfSome}
+use Rattle.std.specs.Prelude.{◌≡◌, ◌≢◌, ◌<◌, ℕ, ◌+◌, ◌*◌, ℤ, pos, ◌+ℤ◌, ◌-ℤ◌, ◌*ℤ◌, ◌≤ℤ◌, ◌<ℤ◌, true, false, ◌⊎◌, ⊤}
+use Rattle.std.specs.Prelude.{List, [], ◌∷◌, ◌++◌, length, slice_get, All, AllPairs, Contains, Result, Ok, Err, IsOk, IfSome}
 use Rattle.text_base.specs.Results.{◌>>=◌}
 use Rattle.cell_values.specs.declared.kind.Kind.{Kind}
 use Rattle.cell_values.specs.declared.cell.Cell.TheVariants.{Mv}
@@ -20,6 +20,7 @@ use Rattle.map_meaning.specs.Evaluation.{Done, operation_values}
 use Rattle.map_meaning.specs.Maps.{CellAt, IsMapOf, WholeMap}
 use Rattle.map_meaning.specs.Missing.{spreads_missing}
 use Rattle.map_meaning.specs.Onward.{ComesBefore, Onward, onward}
+use Rattle.map_meaning.specs.Overs.{may_be_over}
 use Rattle.map_meaning.specs.Scenes.{Scene}
 use Rattle.map_meaning.specs.Programs.{IsWellFormed, StandsBefore}
 use Rattle.map_meaning.specs.Rules.{Setting, kind_at, operand_at, outcome_of}
@@ -56,6 +57,14 @@ LieInTheirKind =
     (o : Op) (setting : Setting) (kind : Kind) (operands : List CellAt) (places place : ℕ) → HasKinds (row_of o) setting.kinds kind →
     ((other : ℕ) → other < places → HaveKindsAt setting.kinds operands other) → place < places →
     LiesIn kind (outcome_of o setting operands place)
+
+-- where an operation's operands have cells of their kinds at all places of a map, no result but those of a few is out of range
+abbrev pub StayInRange : Type 0
+StayInRange =
+    (o : Op) (setting : Setting) (kind : Kind) (operands : List CellAt) (places place : ℕ) →
+    may_be_over o ≡ false → HasKinds (row_of o) setting.kinds kind →
+    ((other : ℕ) → other < places → HaveKindsAt setting.kinds operands other) → place < places →
+    IsOk (outcome_of o setting operands place)
 
 -- where one of its operands is missing, a result is missing, except where the policy on missing values says otherwise
 abbrev pub SpreadMissing : Type 0

@@ -1,7 +1,9 @@
 -- Results that are out of range: how the first such place of a map is told.
-use Rattle.std.specs.Prelude.{ℕ, ◌+◌, ◌/◌, ◌%◌, Option, Some, None, Result, Ok, Err}
+use Rattle.std.specs.Prelude.{Bool, true, false, ℕ, ◌+◌, ◌/◌, ◌%◌, Option, Some, None, Result, Ok, Err}
 use Rattle.tile_map.specs.declared.part.Part.{Part}
 use Rattle.map_meaning.specs.declared.known.OverAt.{OverAt}
+use Rattle.map_meaning.specs.declared.op.Op.{Op}
+use Rattle.map_meaning.specs.declared.op.Op.TheVariants.{Add, Sub, Mul, Div, IntDiv, ToNominal, ToOrdinal}
 use Rattle.map_meaning.specs.Maps.{WholeMap}
 use Rattle.map_meaning.specs.Scenes.{Scene}
 
@@ -18,3 +20,14 @@ map_or_over scene statement number (Some place) m = Err (over_at scene statement
 -- the map of an operation of a statement, or its first place that is Over
 abbrev pub whole_or_over : Scene → ℕ → ℕ → Part → Result WholeMap OverAt
 whole_or_over scene statement number part = map_or_over scene statement number part.over part.cells
+
+-- An operation whose result may be out of the range of its kind, where its operands are in theirs.
+abbrev pub may_be_over : Op → Bool
+may_be_over Add = true
+may_be_over Sub = true
+may_be_over Mul = true
+may_be_over Div = true
+may_be_over IntDiv = true
+may_be_over ToNominal = true
+may_be_over ToOrdinal = true
+may_be_over _ = false

@@ -1,7 +1,7 @@
 //! What holds of every model, in the subject's words.
 
 ghost use Rattle.map_meaning.specs.Examples.{CellExamples, KindExamples, ProgramExamples, SectionExamples};
-ghost use Rattle.map_meaning.specs.Laws.{AreNearWhole, ChangeTheirTargets, GiveWholeMaps, HaveOneRow, LieInTheirKind, OperationsGoOn, SectionsGoOn, SpreadMissing, TellTheLeastOver};
+ghost use Rattle.map_meaning.specs.Laws.{AreNearWhole, ChangeTheirTargets, GiveWholeMaps, HaveOneRow, LieInTheirKind, OperationsGoOn, SectionsGoOn, SpreadMissing, StayInRange, TellTheLeastOver};
 
 /// Worked examples come out as they were worked out by hand.
 pub fn worked_examples_come_out()
@@ -19,6 +19,12 @@ pub fn operations_have_one_row()
 /// The result of an operation is a cell of its kind where its operands' cells are of theirs.
 pub fn results_lie_in_their_kind()
     ensures { LieInTheirKind }
+{}
+
+/// Sums, differences, products, quotients and conversions to classes can leave the range of their kind; no other
+/// operation does where its operands' cells are of their kinds.
+pub fn few_operations_leave_their_range()
+    ensures { StayInRange }
 {}
 
 /// A missing operand gives a missing value, except in the choices and tests that look at what is missing.

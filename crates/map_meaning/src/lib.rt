@@ -18,8 +18,8 @@ mod tree;
 
 pub use known::{Known, OverAt, Span, StageEnd, StepMap};
 pub use laws::{
-    first_over_is_the_least_noted, missing_operands_spread, operations_have_one_row,
-    results_lie_in_their_kind, sections_go_on, spans_give_whole_maps,
+    few_operations_leave_their_range, first_over_is_the_least_noted, missing_operands_spread,
+    operations_have_one_row, results_lie_in_their_kind, sections_go_on, spans_give_whole_maps,
     statements_change_their_target, whole_numbers_are_near, worked_examples_come_out,
 };
 pub use map::Map;
