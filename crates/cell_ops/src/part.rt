@@ -28,16 +28,15 @@ fn plain(
     a: Arg<'_>,
     b: Arg<'_>,
     c: Arg<'_>,
-    d: Arg<'_>,
+    _d: Arg<'_>,
 ) -> Result<Part, AllocError>
     requires plain { is_plain op ≡ true }
     requires few { len ≤ most_cells }
     requires a { SpansPlaces a len }
     requires b { SpansPlaces b len }
     requires c { SpansPlaces c len }
-    ensures { IfOk result (λ part. part ≡ part_of (λ place. work_outcome (Plain op) (arg_cell a.entry place) (arg_cell b.entry place) (arg_cell c.entry place) (arg_cell d.entry place)) len) }
+    ensures { IfOk result (λ part. part ≡ part_of (λ place. work_outcome (Plain op) (arg_cell a.entry place) (arg_cell b.entry place) (arg_cell c.entry place) (arg_cell _d.entry place)) len) }
 {
-    let _ = d;
     match op {
         Op::CopyOf => one(alloc, &Copy, len, a),
         Op::Add => two(alloc, &Sum, len, a, b),
