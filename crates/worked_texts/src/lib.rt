@@ -17,6 +17,8 @@ mod rounding;
 #[cfg(test)]
 mod scripts;
 #[cfg(test)]
+mod series;
+#[cfg(test)]
 mod tables;
 #[cfg(test)]
 mod tiles;
