@@ -1,0 +1,6 @@
+pub mod Parts
+pub mod Works
+pub mod ReaderLemmas
+pub mod Stages
+pub mod HeldLemmas
+pub mod Steps

@@ -1,0 +1,55 @@
+ghost use Rattle.std.specs.Prelude.{◌≡◌, ◌<◌, ◌≤◌, ℕ, length, All, IfOk, slice_index_or, if◌then◌else◌};
+ghost use Rattle.map_meaning.specs.Limits.{most_operations};
+ghost use Rattle.map_meaning.specs.Programs.{is_initial};
+ghost use Rattle.plain_eval.specs.inside.Readers.{AreLastReaders, NamesBelow, NotesReader, ReadsBelow};
+
+use map_meaning::{Operand, Operation};
+use std::alloc::{AllocError, Global};
+
+// Notes that the operation n reads the map that an operand names.
+fn note(last: &mut [u32], n: u32, operand: Operand)
+    requires { NamesBelow (length last.old) operand }
+    ensures count { length last.new ≡ length last.old }
+    ensures each { (k : ℕ) → k < length last.old → slice_index_or last.new k 0 ≡ (if is_initial k operand then n else slice_index_or last.old k 0) }
+{
+    if let Operand::Initial(k) = operand {
+        last[k as usize] = n;
+    }
+}
+
+// Notes that the operation n reads the maps that its operands name.
+fn note_reader(last: &mut [u32], n: u32, operation: Operation)
+    requires { ReadsBelow (length last.old) operation }
+    ensures { NotesReader n operation last.old last.new }
+{
+    note(last, n, operation.a);
+    note(last, n, operation.b);
+    note(last, n, operation.c);
+    note(last, n, operation.d);
+}
+
+// The numbers of so many operations.
+fn numbers(alloc: Global, count: usize) -> Result<Vec<u32>, AllocError>
+    requires { count ≤ most_operations }
+    ensures count { IfOk result (λ numbers. length numbers.items ≡ count) }
+    ensures each { IfOk result (λ numbers. (k : ℕ) → k < count → slice_index_or numbers.items k 0 ≡ k) }
+{
+    let mut numbers = Vec::with_capacity(alloc, count)?;
+    for n in 0..count {
+        numbers.push(n as u32)?;
+    }
+    Ok(numbers)
+}
+
+/// For each operation of a section the number of the last one that reads its map; its own number where none does.
+pub fn last_readers(alloc: Global, operations: &[Operation]) -> Result<Vec<u32>, AllocError>
+    requires few { length operations.now ≤ most_operations }
+    requires below { All (ReadsBelow (length operations.now)) operations.now }
+    ensures { IfOk result (λ last. AreLastReaders operations.now last.items) }
+{
+    let mut last = numbers(alloc, operations.len())?;
+    for (n, operation) in operations.iter().enumerate() {
+        note_reader(&mut last, n as u32, *operation);
+    }
+    Ok(last)
+}
