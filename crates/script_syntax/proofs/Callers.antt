@@ -8,7 +8,10 @@ use Rattle.script_syntax.specs.declared.tree.Script.{Script}
 use Rattle.script_syntax.specs.Answers.{Reads, TellsFault}
 use Rattle.script_syntax.specs.Faults.{tokens_of, IsScript, IsFaulty, IsExact}
 use Rattle.script_syntax.specs.WellMade.{IsWellMade}
+use Rattle.script_syntax.specs.declared.place.Mode.TheVariants.{Bindings}
+use Rattle.script_syntax.specs.Places.{first_place}
 use Rattle.script_syntax.proofs.Keeping.{derives-well_made}
+use Rattle.script_syntax.proofs.TokenWords.{tokens_spelled}
 use Rattle.script_syntax.specs.inside.Reading.{tree_of}
 use Rattle.script_syntax.proofs.FaultLaws.{tree_of-exact, exact_is}
 
@@ -29,7 +32,7 @@ only_in text r h has e = subst (λ x. Reads r x) (exact_is text has e) h
 
 -- the tree of a script keeps the limits
 pub script_well_made : (text : List ℕ) (s : Script) → IsScript text s → IsWellMade s
-script_well_made text s h = derives-well_made (tokens_of h.scanned.tokens) s h.derives h.clean
+script_well_made text s h = derives-well_made (tokens_of h.scanned.tokens) s h.derives (tokens_spelled h.scanned.tokens h.scanned.ending Bindings first_place text h.tokens) h.clean
 
 -- so does the tree that is answered
 pub made_in : (text : List ℕ) (r : Result Script ReadScript) → Reads r (tree_of text) → IfOk r IsWellMade

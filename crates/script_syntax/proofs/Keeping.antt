@@ -33,6 +33,8 @@ use Rattle.script_syntax.specs.inside.Readings.{new_reading, reading_step, finis
 use Rattle.script_syntax.specs.inside.Runs.{Went, done, stuck, onward, go}
 use Rattle.script_syntax.proofs.CountLaws.{counts_of-more}
 use Rattle.script_syntax.proofs.ScriptPasts.{mark_is}
+use Rattle.script_syntax.proofs.KeepingWords.{HasGoodWords, good_words}
+use Rattle.script_syntax.proofs.TokenWords.{AreSpelled}
 use Rattle.script_syntax.proofs.Viable.{IsDone, derives_done}
 
 -- ---- what holds in each phase
@@ -513,18 +515,36 @@ kept_go (t ∷ ts) front r n k clean e = by_step (reading_step r t) t ts front r
         subst (λ (f : List Token). IsKept n (counts_of f)) same
         (next (front ++ t ∷ []) m (subst (λ (c : Counts). IsKept m c) (sym (counts_of-more front t)) step) (subst IsClean (sym same) clean) e)
 
-well_made : (r : Reading) (c : Counts) (s : Script) → IsKept r c → finish r ≡ Some s → IsWellMade s
-well_made r c s k e = by_phase r.phase r.script c s k e
+-- a script within the limits
+record IsWithin (s : Script) : Type 0 where
+  entries : length s.bindings ≤ 1000
+  statements : length s.initial + length s.dynamic ≤ 1000
+  steps : s.steps ≤ 100000
+  still : s.steps ≡ 0 → s.dynamic ≡ []
+
+within_limits : (r : Reading) (c : Counts) (s : Script) → IsKept r c → finish r ≡ Some s → IsWithin s
+within_limits r c s k e = by_phase r.phase r.script c s k e
   where
-    by_phase : (p : Phase) (q : Script) (c : Counts) (s : Script) → KeptPhase p q c → finish (record { script = q; phase = p }) ≡ Some s → IsWellMade s
-    by_phase (phases.Section sections.Static) q c s k e = subst IsWellMade (some_is q s e) (record { entries = k.entries; statements = k.statements; steps = (let z = k.steps.0 in omega arith); still = λ z. k.steps.1 })
-    by_phase (phases.Section sections.Dynamic) q c s k e = subst IsWellMade (some_is q s e) (record { entries = k.entries; statements = k.statements; steps = k.steps.1; still = λ z. absurd (let l = k.steps.0 in omega arith) })
+    by_phase : (p : Phase) (q : Script) (c : Counts) (s : Script) → KeptPhase p q c → finish (record { script = q; phase = p }) ≡ Some s → IsWithin s
+    by_phase (phases.Section sections.Static) q c s k e = subst IsWithin (some_is q s e) (record { entries = k.entries; statements = k.statements; steps = (let z = k.steps.0 in omega arith); still = λ z. k.steps.1 })
+    by_phase (phases.Section sections.Dynamic) q c s k e = subst IsWithin (some_is q s e) (record { entries = k.entries; statements = k.statements; steps = k.steps.1; still = λ z. absurd (let l = k.steps.0 in omega arith) })
     by_phase _ q c s k e = absurd cc
 
 -- tokens that derive a tree and have no faults of their own derive a well made one
-pub derives-well_made : (ts : List Token) (s : Script) → Derives ts s → IsClean ts → IsWellMade s
-derives-well_made ts s d clean =
+pub derives-well_made : (ts : List Token) (s : Script) → Derives ts s → AreSpelled ts → IsClean ts → IsWellMade s
+derives-well_made ts s d spelled clean =
     let g = derives_done ts s d in
-    well_made g.reading (counts_of ts) s
+    let k = within_limits g.reading (counts_of ts) s
     (kept_go ts [] new_reading g.reading (refl, refl, refl, refl, record { initial = refl; dynamic = refl; none = refl }) clean g.goes)
-    g.finishes
+    g.finishes in
+    let w = good_words ts g.reading s g.goes g.finishes spelled clean in
+    record {
+      entries = k.entries;
+      statements = k.statements;
+      steps = k.steps;
+      still = k.still;
+      area = w.area;
+      bindings = w.bindings;
+      initial = w.initial;
+      dynamic = w.dynamic;
+    }

@@ -5,6 +5,7 @@ pub mod CountLaws
 pub mod FaultLaws
 pub mod FormulaPasts
 pub mod Keeping
+pub mod KeepingWords
 pub mod NumberLaws
 pub mod Pieces
 pub mod ReadSteps
@@ -15,4 +16,6 @@ pub mod ScanSteps
 pub mod ScriptPasts
 pub mod SpellingLaws
 pub mod Taking
+pub mod TokenWords
 pub mod Viable
+pub mod Wording
