@@ -23,6 +23,7 @@ name_in (a_name w) = Some w
 name_in (a_sum x y) = None
 name_in other = None
 
+-- two names where both are there
 abbrev pub both_names : Option (List ℕ) → Option (List ℕ) → Option (List ℕ × List ℕ)
 both_names (Some x) (Some y) = Some (x, y)
 both_names _ _ = None
@@ -34,6 +35,7 @@ names_in (a ∷ []) = None
 names_in (a ∷ b ∷ []) = both_names (name_in a) (name_in b)
 names_in (a ∷ b ∷ c ∷ more) = None
 
+-- the sum of two names, where they are names
 abbrev pub sum_or_other : Option (List ℕ × List ℕ) → Shape
 sum_or_other None = other
 sum_or_other (Some names) = a_sum names.0 names.1
@@ -80,12 +82,13 @@ abbrev pub parts_of : List Binding → List Statement → List Statement → Opt
 parts_of (a ∷ b ∷ []) (s ∷ []) [] = Some (record { first = a; second = b; statement = s })
 parts_of bindings initial dynamic = None
 
+-- two words differ
 abbrev pub are_apart : List ℕ → List ℕ → Bool
 are_apart a b = not (bytes_eq a b)
 
 -- the bindings have no kinds, the area is the first of them, and the one statement is reported
-abbrev pub is_plain : Script → Parts → Bool
-is_plain s p = is_none p.first.kind && is_none p.second.kind && bytes_eq s.area p.first.name && (s.steps == 0) && p.statement.report
+abbrev pub is_plain_sum : Script → Parts → Bool
+is_plain_sum s p = is_none p.first.kind && is_none p.second.kind && bytes_eq s.area p.first.name && (s.steps == 0) && p.statement.report
 
 -- the statement adds the two names in their order
 abbrev pub adds : Parts → List ℕ × List ℕ → Bool
@@ -103,5 +106,5 @@ sum_files s = do
   first ← file_of parts.first.target
   second ← file_of parts.second.target
   names ← sum_in (shape_of parts.statement.expr)
-  if is_plain s parts && adds parts names && differ parts (record { first = first; second = second; target = parts.statement.name })
+  if is_plain_sum s parts && adds parts names && differ parts (record { first = first; second = second; target = parts.statement.name })
       then Some (record { first = first; second = second; target = parts.statement.name }) else None

@@ -1,6 +1,6 @@
 ghost use Rattle.std.specs.Prelude.{◌≡◌, map, option_map};
 ghost use Rattle.std.specs.Option.{option_copied};
-ghost use Rattle.lue_run.specs.PairForm.{adds, are_apart, call_shape, differ, file_of, is_plain, name_in, names_in, parts_of, shape_of, sum_files, sum_in};
+ghost use Rattle.lue_run.specs.PairForm.{adds, are_apart, call_shape, differ, file_of, is_plain_sum, name_in, names_in, parts_of, shape_of, sum_files, sum_in};
 ghost use Rattle.lue_run.specs.inside.Values.{files_named, parts_named};
 
 use cell_values::Word;
@@ -105,7 +105,7 @@ fn are_apart(a: &Word, b: &Word) -> bool
 
 // Whether the bindings have no kinds, the area is the first of them, and the one statement is reported.
 fn is_plain(script: &Script, parts: &Parts<'_>) -> bool
-    ensures { result ≡ is_plain script.now (parts_named parts.now) }
+    ensures { result ≡ is_plain_sum script.now (parts_named parts.now) }
 {
     parts.first.kind.is_none()
         && parts.second.kind.is_none()

@@ -5,7 +5,7 @@ use Rattle.std.specs.Prelude.{◌||◌, if◌then◌else◌, unwrap_or, is_some}
 use Rattle.std.specs.Option.{option_map}
 use Rattle.script_syntax.specs.declared.token.Token.{Token}
 use Rattle.script_syntax.specs.declared.counts.Counts.{Counts}
-use Rattle.script_syntax.specs.Listed.{or_earlier, behind_last, behind_first, ends_in, is_semicolon, is_areamap, is_timer, is_section, is_before_statement, is_counted, timer_count, statement_count, token_count, counts_of}
+use Rattle.script_syntax.specs.Listed.{or_earlier, behind_last, behind_first, ends_in, is_semicolon, is_areamap, is_timer, is_section, is_before_statement, is_counted, timer_count, statement_count, token_count, counts_behind}
 use Rattle.script_syntax.specs.inside.Counting.{one_more, timer_after, statements_after, counted_after, counts_after}
 
 -- ---- lists with one more token
@@ -80,7 +80,7 @@ statements_more ts t = ap (option_map (count_by is_semicolon)) (first_more is_se
         by_section false = refl
     by_option (Some us) t = ap Some (count_more is_semicolon us t)
 
-counted_more : (ts : List Token) (t : Token) → token_count (ts ++ t ∷ []) ≡ counted_after (counts_of ts) t
+counted_more : (ts : List Token) (t : Token) → token_count (ts ++ t ∷ []) ≡ counted_after (counts_behind ts) t
 unfolding last_with
 counted_more ts t = ap (λ (o : Option (List Token)). count_by is_counted (unwrap_or o (ts ++ t ∷ []))) (last_more is_before_statement ts t) ∙ by_option (is_before_statement t) (behind_last is_before_statement ts) ts t
   where
@@ -98,7 +98,7 @@ timer_more ts t = ap (option_map length) (last_more is_timer ts t) ∙ by_option
     by_option false None t = refl
     by_option false (Some us) t = ap Some (length-append us (t ∷ []))
 
-pub counts_of-more : (ts : List Token) (t : Token) → counts_of (ts ++ t ∷ []) ≡ counts_after (counts_of ts) t
+pub counts_of-more : (ts : List Token) (t : Token) → counts_behind (ts ++ t ∷ []) ≡ counts_after (counts_behind ts) t
 counts_of-more ts t =
     let covered = covered_more ts t in
     let semicolons = count_more is_semicolon ts t in

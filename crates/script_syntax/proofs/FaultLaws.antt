@@ -13,15 +13,15 @@ use Rattle.script_syntax.specs.declared.place.Place.{Place}
 use Rattle.script_syntax.specs.declared.scanner.Placed.{Placed}
 use Rattle.script_syntax.specs.declared.reading.Reading.{Reading}
 use Rattle.script_syntax.specs.Grammar.{Derives, IsViable}
-use Rattle.script_syntax.specs.Listed.{is_long, is_bad_timer, is_entry_too_many, is_statement_too_many, is_large, listed_by, listed, counts_of, IsClean}
+use Rattle.script_syntax.specs.Listed.{is_long, is_bad_timer, is_entry_too_many, is_statement_too_many, is_large, listed_by, listed, counts_behind, IsClean}
 use Rattle.script_syntax.specs.Places.{first_place}
-use Rattle.script_syntax.specs.Tokens.{Ending, Whole, Byte, Scanned, AreTokens}
-use Rattle.script_syntax.specs.Faults.{tokens_of, place_behind, end_from, end_place, place_of, HasListed, HasRefused, HasEnd, IsFault, IsFirstFault, IsScript, IsFaulty, IsExact}
+use Rattle.script_syntax.specs.Tokens.{Ending, Whole, Byte, Scanned, AreScriptTokens}
+use Rattle.script_syntax.specs.Faults.{tokens_of, place_after_token, end_from, end_place, fault_place, HasListed, HasRefused, HasEnd, IsFault, IsFirstSyntaxFault, IsScript, IsFaulty, IsExact}
 use Rattle.script_syntax.specs.inside.Counting.{counts_after}
 use Rattle.script_syntax.specs.inside.Readings.{new_reading, reading_step, finish}
-use Rattle.script_syntax.specs.inside.Runs.{Went, done, stuck, onward, go}
+use Rattle.script_syntax.specs.inside.Runs.{Went, done, stuck, went_onward, go}
 use Rattle.script_syntax.specs.inside.Scanning.{scan}
-use Rattle.script_syntax.specs.inside.Reading.{fault_at, tree_or_end, at_end, listed_or, step_at, and_then, read_from, read_scanned, tree_of}
+use Rattle.script_syntax.specs.inside.Reading.{syntax_fault_at, tree_or_end, at_end, listed_or, step_at, and_then, read_from, read_scanned, tree_of}
 use Rattle.script_syntax.proofs.CountLaws.{counts_of-more}
 use Rattle.script_syntax.proofs.ScanLaws.{tokens_one, tokens_are}
 use Rattle.script_syntax.proofs.Viable.{done_viable, done_derives, IsDone, derives_done, go-append, stuck_dead, IsTaken, viable_done}
@@ -32,9 +32,9 @@ tokens_of-append : (xs ys : List Placed) → tokens_of (xs ++ ys) ≡ tokens_of 
 tokens_of-append [] ys = refl
 tokens_of-append (x ∷ xs) ys = ap (λ (ts : List Token). x.token ∷ ts) (tokens_of-append xs ys)
 
-end_from-append : (p : Place) (xs : List Placed) (x : Placed) → end_from p (xs ++ x ∷ []) ≡ place_behind x
+end_from-append : (p : Place) (xs : List Placed) (x : Placed) → end_from p (xs ++ x ∷ []) ≡ place_after_token x
 end_from-append p [] x = refl
-end_from-append p (y ∷ xs) x = end_from-append (place_behind y) xs x
+end_from-append p (y ∷ xs) x = end_from-append (place_after_token y) xs x
 
 -- a place in a list with one more: the last, or one before
 record IsLast (xs front back : List Token) (t u : Token) : Type 0 where
@@ -103,7 +103,7 @@ own_fault kinds.Number front back ending place o h = h
 -- what holds of what is given behind a front
 abbrev IsGiven : List Placed → List Placed → Ending → Result Script SyntaxFault → Type 0
 IsGiven front back ending (Ok tree) = (ending ≡ Whole) × Derives (tokens_of (front ++ back)) tree × IsClean (tokens_of (front ++ back))
-IsGiven front back ending (Err f) = IsFirstFault (record { tokens = front ++ back; ending = ending }) f
+IsGiven front back ending (Err f) = IsFirstSyntaxFault (record { tokens = front ++ back; ending = ending }) f
 
 given_end : (o : Option Script) (front : List Placed) (r : Reading) → go new_reading (tokens_of front) ≡ done r → IsClean (tokens_of front) → finish r ≡ o → IsGiven front [] Whole (tree_or_end o (end_place front))
 given_end (Some tree) front r e clean f =
@@ -141,18 +141,18 @@ given_last (Byte place) front r e clean = record {
 }
 
 -- a token with a fault of its own
-given_listed : (kind : SyntaxKind) (t : Placed) (ts front : List Placed) (ending : Ending) (r : Reading) → go new_reading (tokens_of front) ≡ done r → IsClean (tokens_of front) → listed (tokens_of front) t.token ≡ Some kind → IsGiven front (t ∷ ts) ending (Err (fault_at t.place kind))
+given_listed : (kind : SyntaxKind) (t : Placed) (ts front : List Placed) (ending : Ending) (r : Reading) → go new_reading (tokens_of front) ≡ done r → IsClean (tokens_of front) → listed (tokens_of front) t.token ≡ Some kind → IsGiven front (t ∷ ts) ending (Err (syntax_fault_at t.place kind))
 given_listed kind t ts front ending r e clean h = record {
   front = front;
   back = t ∷ ts;
   parts = refl;
   before = done_viable (tokens_of front) r e;
   clean = clean;
-  here = own_fault kind front (t ∷ ts) ending t.place (listed_own (counts_of (tokens_of front)) t.token kind h) (record { token = t; rest = ts; stands = refl; is_at = refl; is = h });
+  here = own_fault kind front (t ∷ ts) ending t.place (listed_own (counts_behind (tokens_of front)) t.token kind h) (record { token = t; rest = ts; stands = refl; is_at = refl; is = h });
 }
 
 -- a token with which the front begins no script
-given_refused : (t : Placed) (ts front : List Placed) (ending : Ending) (r : Reading) → go new_reading (tokens_of front) ≡ done r → IsClean (tokens_of front) → listed (tokens_of front) t.token ≡ None → reading_step r t.token ≡ None → IsGiven front (t ∷ ts) ending (Err (fault_at t.place kinds.Token))
+given_refused : (t : Placed) (ts front : List Placed) (ending : Ending) (r : Reading) → go new_reading (tokens_of front) ≡ done r → IsClean (tokens_of front) → listed (tokens_of front) t.token ≡ None → reading_step r t.token ≡ None → IsGiven front (t ∷ ts) ending (Err (syntax_fault_at t.place kinds.Token))
 given_refused t ts front ending r e clean h step = record {
   front = front;
   back = t ∷ ts;
@@ -165,30 +165,30 @@ given_refused t ts front ending r e clean h step = record {
     stands = refl;
     is_at = refl;
     clean = h;
-    dead = stuck_dead (tokens_of front ++ t.token ∷ []) (t.token ∷ []) (go-append (tokens_of front) (t.token ∷ []) new_reading r e ∙ ap (λ (o : Option Reading). onward o (t.token ∷ []) (λ n. go n [])) step);
+    dead = stuck_dead (tokens_of front ++ t.token ∷ []) (t.token ∷ []) (go-append (tokens_of front) (t.token ∷ []) new_reading r e ∙ ap (λ (o : Option Reading). went_onward o (t.token ∷ []) (λ n. go n [])) step);
   };
 }
 
-read_step : (r : Reading) (c : Counts) (end : Place) (t : Placed) (ts : List Placed) (ending : Ending) (o : Option SyntaxKind) (n : Option Reading) → listed_by c t.token ≡ o → reading_step r t.token ≡ n → read_from r c end (t ∷ ts) ending ≡ and_then (listed_or o t.place n) (λ next. read_from next (counts_after c t.token) (place_behind t) ts ending)
+read_step : (r : Reading) (c : Counts) (end : Place) (t : Placed) (ts : List Placed) (ending : Ending) (o : Option SyntaxKind) (n : Option Reading) → listed_by c t.token ≡ o → reading_step r t.token ≡ n → read_from r c end (t ∷ ts) ending ≡ and_then (listed_or o t.place n) (λ next. read_from next (counts_after c t.token) (place_after_token t) ts ending)
 unfolding step_at
 read_step r c end t ts ending o n h k =
-    ap (λ (p : Option SyntaxKind). and_then (listed_or p t.place (reading_step r t.token)) (λ next. read_from next (counts_after c t.token) (place_behind t) ts ending)) h
-    ∙ ap (λ (m : Option Reading). and_then (listed_or o t.place m) (λ next. read_from next (counts_after c t.token) (place_behind t) ts ending)) k
+    ap (λ (p : Option SyntaxKind). and_then (listed_or p t.place (reading_step r t.token)) (λ next. read_from next (counts_after c t.token) (place_after_token t) ts ending)) h
+    ∙ ap (λ (m : Option Reading). and_then (listed_or o t.place m) (λ next. read_from next (counts_after c t.token) (place_after_token t) ts ending)) k
 
 -- the front with one more token
 record IsFront (front : List Placed) (t : Placed) (r n : Reading) : Type 0 where
   goes : go new_reading (tokens_of (front ++ t ∷ [])) ≡ done n
   clean : IsClean (tokens_of (front ++ t ∷ []))
-  counts : counts_of (tokens_of (front ++ t ∷ [])) ≡ counts_after (counts_of (tokens_of front)) t.token
-  end : end_place (front ++ t ∷ []) ≡ place_behind t
+  counts : counts_behind (tokens_of (front ++ t ∷ [])) ≡ counts_after (counts_behind (tokens_of front)) t.token
+  end : end_place (front ++ t ∷ []) ≡ place_after_token t
 
 front_more : (front : List Placed) (t : Placed) (r n : Reading) → go new_reading (tokens_of front) ≡ done r → IsClean (tokens_of front) → listed (tokens_of front) t.token ≡ None → reading_step r t.token ≡ Some n → IsFront front t r n
 front_more front t r n e clean h step =
     let same : tokens_of (front ++ t ∷ []) ≡ tokens_of front ++ t.token ∷ [] = tokens_of-append front (t ∷ []) in
     record {
-      goes = ap (go new_reading) same ∙ (go-append (tokens_of front) (t.token ∷ []) new_reading r e ∙ ap (λ (o : Option Reading). onward o (t.token ∷ []) (λ n. go n [])) step);
+      goes = ap (go new_reading) same ∙ (go-append (tokens_of front) (t.token ∷ []) new_reading r e ∙ ap (λ (o : Option Reading). went_onward o (t.token ∷ []) (λ n. go n [])) step);
       clean = subst IsClean (sym same) (clean_more (tokens_of front) t.token clean h);
-      counts = ap counts_of same ∙ counts_of-more (tokens_of front) t.token;
+      counts = ap counts_behind same ∙ counts_of-more (tokens_of front) t.token;
       end = end_from-append first_place front t;
     }
 
@@ -209,20 +209,20 @@ given_more t ts front ending (Err f) g = record {
   here = g.here;
 }
 
-given_step : (k : Option SyntaxKind) (o : Option Reading) (t : Placed) (ts front : List Placed) (ending : Ending) (r : Reading) → go new_reading (tokens_of front) ≡ done r → IsClean (tokens_of front) → listed (tokens_of front) t.token ≡ k → reading_step r t.token ≡ o → ((f : List Placed) (n : Reading) → go new_reading (tokens_of f) ≡ done n → IsClean (tokens_of f) → IsGiven f ts ending (read_from n (counts_of (tokens_of f)) (end_place f) ts ending)) → IsGiven front (t ∷ ts) ending (and_then (listed_or k t.place o) (λ next. read_from next (counts_after (counts_of (tokens_of front)) t.token) (place_behind t) ts ending))
+given_step : (k : Option SyntaxKind) (o : Option Reading) (t : Placed) (ts front : List Placed) (ending : Ending) (r : Reading) → go new_reading (tokens_of front) ≡ done r → IsClean (tokens_of front) → listed (tokens_of front) t.token ≡ k → reading_step r t.token ≡ o → ((f : List Placed) (n : Reading) → go new_reading (tokens_of f) ≡ done n → IsClean (tokens_of f) → IsGiven f ts ending (read_from n (counts_behind (tokens_of f)) (end_place f) ts ending)) → IsGiven front (t ∷ ts) ending (and_then (listed_or k t.place o) (λ next. read_from next (counts_after (counts_behind (tokens_of front)) t.token) (place_after_token t) ts ending))
 given_step (Some kind) o t ts front ending r e clean h step next = given_listed kind t ts front ending r e clean h
 given_step None None t ts front ending r e clean h step next = given_refused t ts front ending r e clean h step
 given_step None (Some n) t ts front ending r e clean h step next =
     let f = front_more front t r n e clean h step in
     let g = next (front ++ t ∷ []) n f.goes f.clean in
-    let same : read_from n (counts_of (tokens_of (front ++ t ∷ []))) (end_place (front ++ t ∷ [])) ts ending ≡ read_from n (counts_after (counts_of (tokens_of front)) t.token) (place_behind t) ts ending =
-    ap (λ (c : Counts). read_from n c (end_place (front ++ t ∷ [])) ts ending) f.counts ∙ ap (λ (p : Place). read_from n (counts_after (counts_of (tokens_of front)) t.token) p ts ending) f.end in
+    let same : read_from n (counts_behind (tokens_of (front ++ t ∷ []))) (end_place (front ++ t ∷ [])) ts ending ≡ read_from n (counts_after (counts_behind (tokens_of front)) t.token) (place_after_token t) ts ending =
+    ap (λ (c : Counts). read_from n c (end_place (front ++ t ∷ [])) ts ending) f.counts ∙ ap (λ (p : Place). read_from n (counts_after (counts_behind (tokens_of front)) t.token) p ts ending) f.end in
     given_more t ts front ending _ (subst (λ (u : Result Script SyntaxFault). IsGiven (front ++ t ∷ []) ts ending u) same g)
 
-given : (ts front : List Placed) (ending : Ending) (r : Reading) → go new_reading (tokens_of front) ≡ done r → IsClean (tokens_of front) → IsGiven front ts ending (read_from r (counts_of (tokens_of front)) (end_place front) ts ending)
+given : (ts front : List Placed) (ending : Ending) (r : Reading) → go new_reading (tokens_of front) ≡ done r → IsClean (tokens_of front) → IsGiven front ts ending (read_from r (counts_behind (tokens_of front)) (end_place front) ts ending)
 given [] front ending r e clean = given_last ending front r e clean
 given (t ∷ ts) front ending r e clean =
-    subst (λ (u : Result Script SyntaxFault). IsGiven front (t ∷ ts) ending u) (sym (read_step r (counts_of (tokens_of front)) (end_place front) t ts ending (listed (tokens_of front) t.token) (reading_step r t.token) refl refl))
+    subst (λ (u : Result Script SyntaxFault). IsGiven front (t ∷ ts) ending u) (sym (read_step r (counts_behind (tokens_of front)) (end_place front) t ts ending (listed (tokens_of front) t.token) (reading_step r t.token) refl refl))
     (given_step (listed (tokens_of front) t.token) (reading_step r t.token) t ts front ending r e clean refl refl (λ f n g c. given ts f ending n g c))
 
 clean_none : IsClean []
@@ -232,7 +232,7 @@ clean_none = λ front back t e. no_empty front back t e
     no_empty [] back t e = absurd cc
     no_empty (f ∷ front) back t e = absurd cc
 
-exact_by : (text : List ℕ) (s : Scanned) (o : Result Script SyntaxFault) → AreTokens text s → IsGiven [] s.tokens s.ending o → IsExact text o
+exact_by : (text : List ℕ) (s : Scanned) (o : Result Script SyntaxFault) → AreScriptTokens text s → IsGiven [] s.tokens s.ending o → IsExact text o
 exact_by text s (Ok tree) a g = record { scanned = s; tokens = a; whole = g.0; derives = g.1; clean = g.2 }
 exact_by text s (Err f) a g = record { scanned = s; tokens = a; first = record { front = g.front; back = g.back; parts = g.parts; before = g.before; clean = g.clean; here = g.here } }
 
@@ -241,25 +241,25 @@ pub tree_of-exact : (text : List ℕ) → IsExact text (tree_of text)
 unfolding tree_of read_scanned
 tree_of-exact text =
     let s = scan text 0 Bindings first_place in
-    exact_by text s (read_from new_reading (counts_of []) first_place s.tokens s.ending) (tokens_are text) (given s.tokens [] s.ending new_reading refl clean_none)
+    exact_by text s (read_from new_reading (counts_behind []) first_place s.tokens s.ending) (tokens_are text) (given s.tokens [] s.ending new_reading refl clean_none)
 
 -- ---- and nothing else is
 
 -- tokens that are taken and have no faults of their own are read
-passes : (front1 front0 back : List Placed) (r0 r : Reading) (ending : Ending) → go new_reading (tokens_of front0) ≡ done r0 → go r0 (tokens_of front1) ≡ done r → IsClean (tokens_of (front0 ++ front1)) → read_from r0 (counts_of (tokens_of front0)) (end_place front0) (front1 ++ back) ending ≡ read_from r (counts_of (tokens_of (front0 ++ front1))) (end_place (front0 ++ front1)) back ending
+passes : (front1 front0 back : List Placed) (r0 r : Reading) (ending : Ending) → go new_reading (tokens_of front0) ≡ done r0 → go r0 (tokens_of front1) ≡ done r → IsClean (tokens_of (front0 ++ front1)) → read_from r0 (counts_behind (tokens_of front0)) (end_place front0) (front1 ++ back) ending ≡ read_from r (counts_behind (tokens_of (front0 ++ front1))) (end_place (front0 ++ front1)) back ending
 passes [] front0 back r0 r ending e g clean =
     let same : r0 ≡ r = done_same r0 r g in
-    ap (λ (x : Reading). read_from x (counts_of (tokens_of front0)) (end_place front0) back ending) same
-    ∙ ap (λ (f : List Placed). read_from r (counts_of (tokens_of f)) (end_place f) back ending) (sym (append-nil front0))
+    ap (λ (x : Reading). read_from x (counts_behind (tokens_of front0)) (end_place front0) back ending) same
+    ∙ ap (λ (f : List Placed). read_from r (counts_behind (tokens_of f)) (end_place f) back ending) (sym (append-nil front0))
   where
     done_same : (a b : Reading) → done a ≡ done b → a ≡ b
     done_same a b h = cc
 passes (t ∷ front1) front0 back r0 r ending e g clean =
     by_step (reading_step r0 t.token) t front1 front0 back r0 r ending e refl g clean (λ f n a b c. passes front1 f back n r ending a b c)
   where
-    by_step : (o : Option Reading) (t : Placed) (front1 front0 back : List Placed) (r0 r : Reading) (ending : Ending) → go new_reading (tokens_of front0) ≡ done r0 → reading_step r0 t.token ≡ o → onward o (t.token ∷ tokens_of front1) (λ n. go n (tokens_of front1)) ≡ done r → IsClean (tokens_of (front0 ++ t ∷ front1))
-        → ((f : List Placed) (n : Reading) → go new_reading (tokens_of f) ≡ done n → go n (tokens_of front1) ≡ done r → IsClean (tokens_of (f ++ front1)) → read_from n (counts_of (tokens_of f)) (end_place f) (front1 ++ back) ending ≡ read_from r (counts_of (tokens_of (f ++ front1))) (end_place (f ++ front1)) back ending)
-        → read_from r0 (counts_of (tokens_of front0)) (end_place front0) (t ∷ (front1 ++ back)) ending ≡ read_from r (counts_of (tokens_of (front0 ++ t ∷ front1))) (end_place (front0 ++ t ∷ front1)) back ending
+    by_step : (o : Option Reading) (t : Placed) (front1 front0 back : List Placed) (r0 r : Reading) (ending : Ending) → go new_reading (tokens_of front0) ≡ done r0 → reading_step r0 t.token ≡ o → went_onward o (t.token ∷ tokens_of front1) (λ n. go n (tokens_of front1)) ≡ done r → IsClean (tokens_of (front0 ++ t ∷ front1))
+        → ((f : List Placed) (n : Reading) → go new_reading (tokens_of f) ≡ done n → go n (tokens_of front1) ≡ done r → IsClean (tokens_of (f ++ front1)) → read_from n (counts_behind (tokens_of f)) (end_place f) (front1 ++ back) ending ≡ read_from r (counts_behind (tokens_of (f ++ front1))) (end_place (f ++ front1)) back ending)
+        → read_from r0 (counts_behind (tokens_of front0)) (end_place front0) (t ∷ (front1 ++ back)) ending ≡ read_from r (counts_behind (tokens_of (front0 ++ t ∷ front1))) (end_place (front0 ++ t ∷ front1)) back ending
     by_step None t front1 front0 back r0 r ending e step g clean next = absurd cc
     by_step (Some n) t front1 front0 back r0 r ending e step g clean next =
         let same = append_assoc front0 (t ∷ []) front1 in
@@ -267,44 +267,44 @@ passes (t ∷ front1) front0 back r0 r ending e g clean =
         let c0 : IsClean (tokens_of front0) = front_clean front0 t front1 clean in
         let f = front_more front0 t r0 n e c0 h step in
         let clean1 : IsClean (tokens_of ((front0 ++ t ∷ []) ++ front1)) = subst (λ (us : List Placed). IsClean (tokens_of us)) (sym same) clean in
-        read_step r0 (counts_of (tokens_of front0)) (end_place front0) t (front1 ++ back) ending None (Some n) h step
-        ∙ (ap (λ (c : Counts). read_from n c (place_behind t) (front1 ++ back) ending) (sym f.counts)
-        ∙ (ap (λ (p : Place). read_from n (counts_of (tokens_of (front0 ++ t ∷ []))) p (front1 ++ back) ending) (sym f.end)
+        read_step r0 (counts_behind (tokens_of front0)) (end_place front0) t (front1 ++ back) ending None (Some n) h step
+        ∙ (ap (λ (c : Counts). read_from n c (place_after_token t) (front1 ++ back) ending) (sym f.counts)
+        ∙ (ap (λ (p : Place). read_from n (counts_behind (tokens_of (front0 ++ t ∷ []))) p (front1 ++ back) ending) (sym f.end)
         ∙ (next (front0 ++ t ∷ []) n f.goes g clean1
-        ∙ ap (λ (us : List Placed). read_from r (counts_of (tokens_of us)) (end_place us) back ending) same)))
+        ∙ ap (λ (us : List Placed). read_from r (counts_behind (tokens_of us)) (end_place us) back ending) same)))
       where
         front_clean : (front0 : List Placed) (t : Placed) (front1 : List Placed) → IsClean (tokens_of (front0 ++ t ∷ front1)) → IsClean (tokens_of front0)
         front_clean front0 t front1 clean = λ front back u e. clean front (back ++ t.token ∷ tokens_of front1) u (tokens_of-append front0 (t ∷ front1) ∙ (ap (λ (ts : List Token). ts ++ t.token ∷ tokens_of front1) e ∙ append_assoc front (u ∷ back) (t.token ∷ tokens_of front1)))
 
 -- what a front that is taken leads to
-at_front : (front back : List Placed) (r : Reading) (ending : Ending) → go new_reading (tokens_of front) ≡ done r → IsClean (tokens_of front) → read_from new_reading (counts_of []) first_place (front ++ back) ending ≡ read_from r (counts_of (tokens_of front)) (end_place front) back ending
+at_front : (front back : List Placed) (r : Reading) (ending : Ending) → go new_reading (tokens_of front) ≡ done r → IsClean (tokens_of front) → read_from new_reading (counts_behind []) first_place (front ++ back) ending ≡ read_from r (counts_behind (tokens_of front)) (end_place front) back ending
 at_front front back r ending e clean = passes front [] back new_reading r ending refl e clean
 
-listed_here : (kind : SyntaxKind) (front back : List Placed) (r : Reading) (ending : Ending) (place : Place) → HasListed front back kind place → read_from r (counts_of (tokens_of front)) (end_place front) back ending ≡ Err (fault_at place kind)
+listed_here : (kind : SyntaxKind) (front back : List Placed) (r : Reading) (ending : Ending) (place : Place) → HasListed front back kind place → read_from r (counts_behind (tokens_of front)) (end_place front) back ending ≡ Err (syntax_fault_at place kind)
 listed_here kind front back r ending place h =
-    ap (λ (b : List Placed). read_from r (counts_of (tokens_of front)) (end_place front) b ending) h.stands
-    ∙ (read_step r (counts_of (tokens_of front)) (end_place front) h.token h.rest ending (Some kind) (reading_step r h.token.token) h.is refl
-    ∙ ap (λ (p : Place). Err (fault_at p kind)) (sym h.is_at))
+    ap (λ (b : List Placed). read_from r (counts_behind (tokens_of front)) (end_place front) b ending) h.stands
+    ∙ (read_step r (counts_behind (tokens_of front)) (end_place front) h.token h.rest ending (Some kind) (reading_step r h.token.token) h.is refl
+    ∙ ap (λ (p : Place). Err (syntax_fault_at p kind)) (sym h.is_at))
 
-refused_here : (o : Option Reading) (front back : List Placed) (r : Reading) (ending : Ending) (place : Place) (h : HasRefused front back place) → go new_reading (tokens_of front) ≡ done r → reading_step r h.token.token ≡ o → read_from r (counts_of (tokens_of front)) (end_place front) back ending ≡ Err (fault_at place kinds.Token)
+refused_here : (o : Option Reading) (front back : List Placed) (r : Reading) (ending : Ending) (place : Place) (h : HasRefused front back place) → go new_reading (tokens_of front) ≡ done r → reading_step r h.token.token ≡ o → read_from r (counts_behind (tokens_of front)) (end_place front) back ending ≡ Err (syntax_fault_at place kinds.Token)
 refused_here None front back r ending place h e step =
-    ap (λ (b : List Placed). read_from r (counts_of (tokens_of front)) (end_place front) b ending) h.stands
-    ∙ (read_step r (counts_of (tokens_of front)) (end_place front) h.token h.rest ending None None h.clean step
-    ∙ ap (λ (p : Place). Err (fault_at p kinds.Token)) (sym h.is_at))
+    ap (λ (b : List Placed). read_from r (counts_behind (tokens_of front)) (end_place front) b ending) h.stands
+    ∙ (read_step r (counts_behind (tokens_of front)) (end_place front) h.token h.rest ending None None h.clean step
+    ∙ ap (λ (p : Place). Err (syntax_fault_at p kinds.Token)) (sym h.is_at))
 refused_here (Some n) front back r ending place h e step =
-    absurd (h.dead (done_viable (tokens_of front ++ h.token.token ∷ []) n (go-append (tokens_of front) (h.token.token ∷ []) new_reading r e ∙ ap (λ (o : Option Reading). onward o (h.token.token ∷ []) (λ n. go n [])) step)))
+    absurd (h.dead (done_viable (tokens_of front ++ h.token.token ∷ []) n (go-append (tokens_of front) (h.token.token ∷ []) new_reading r e ∙ ap (λ (o : Option Reading). went_onward o (h.token.token ∷ []) (λ n. go n [])) step)))
 
-end_here : (o : Option Script) (front back : List Placed) (r : Reading) (ending : Ending) (place : Place) → HasEnd front back ending place → go new_reading (tokens_of front) ≡ done r → finish r ≡ o → read_from r (counts_of (tokens_of front)) (end_place front) back ending ≡ Err (fault_at place kinds.End)
+end_here : (o : Option Script) (front back : List Placed) (r : Reading) (ending : Ending) (place : Place) → HasEnd front back ending place → go new_reading (tokens_of front) ≡ done r → finish r ≡ o → read_from r (counts_behind (tokens_of front)) (end_place front) back ending ≡ Err (syntax_fault_at place kinds.End)
 end_here None front back r ending place h e f =
-    ap (λ (b : List Placed). read_from r (counts_of (tokens_of front)) (end_place front) b ending) h.none
+    ap (λ (b : List Placed). read_from r (counts_behind (tokens_of front)) (end_place front) b ending) h.none
     ∙ (ap (at_end r (end_place front)) h.whole
     ∙ (ap (λ (x : Option Script). tree_or_end x (end_place front)) f
-    ∙ ap (λ (p : Place). Err (fault_at p kinds.End)) (sym h.is_at)))
+    ∙ ap (λ (p : Place). Err (syntax_fault_at p kinds.End)) (sym h.is_at)))
 end_here (Some tree) front back r ending place h e f = absurd (h.no_script tree (done_derives (tokens_of front) r tree e f))
 
-fault_here : (kind : SyntaxKind) (front back : List Placed) (r : Reading) (ending : Ending) (place : Place) → IsFault front back ending kind place → go new_reading (tokens_of front) ≡ done r → read_from r (counts_of (tokens_of front)) (end_place front) back ending ≡ Err (fault_at place kind)
+fault_here : (kind : SyntaxKind) (front back : List Placed) (r : Reading) (ending : Ending) (place : Place) → IsFault front back ending kind place → go new_reading (tokens_of front) ≡ done r → read_from r (counts_behind (tokens_of front)) (end_place front) back ending ≡ Err (syntax_fault_at place kind)
 fault_here kinds.Byte front back r ending place h e =
-    ap (λ (b : List Placed). read_from r (counts_of (tokens_of front)) (end_place front) b ending) h.0
+    ap (λ (b : List Placed). read_from r (counts_behind (tokens_of front)) (end_place front) b ending) h.0
     ∙ ap (at_end r (end_place front)) h.1
 fault_here kinds.Token front back r ending place h e = refused_here (reading_step r h.token.token) front back r ending place h e refl
 fault_here kinds.End front back r ending place h e = end_here (finish r) front back r ending place h e refl
@@ -320,8 +320,8 @@ exact_is text (Ok tree) h =
     let s = h.scanned in
     let same = tokens_one text s h.tokens in
     let d = derives_done (tokens_of s.tokens) tree h.derives in
-    ap (λ (c : Scanned). read_from new_reading (counts_of []) first_place c.tokens c.ending) (sym same)
-    ∙ (ap (λ (ts : List Placed). read_from new_reading (counts_of []) first_place ts s.ending) (sym (append-nil s.tokens))
+    ap (λ (c : Scanned). read_from new_reading (counts_behind []) first_place c.tokens c.ending) (sym same)
+    ∙ (ap (λ (ts : List Placed). read_from new_reading (counts_behind []) first_place ts s.ending) (sym (append-nil s.tokens))
     ∙ (at_front s.tokens [] d.reading s.ending d.goes h.clean
     ∙ (ap (at_end d.reading (end_place s.tokens)) h.whole
     ∙ ap (λ (x : Option Script). tree_or_end x (end_place s.tokens)) d.finishes)))
@@ -330,10 +330,10 @@ exact_is text (Err f) h =
     let first = h.first in
     let same = tokens_one text s h.tokens in
     let v = viable_done (tokens_of first.front) first.before in
-    ap (λ (c : Scanned). read_from new_reading (counts_of []) first_place c.tokens c.ending) (sym same)
-    ∙ (ap (λ (ts : List Placed). read_from new_reading (counts_of []) first_place ts s.ending) first.parts
+    ap (λ (c : Scanned). read_from new_reading (counts_behind []) first_place c.tokens c.ending) (sym same)
+    ∙ (ap (λ (ts : List Placed). read_from new_reading (counts_behind []) first_place ts s.ending) first.parts
     ∙ (at_front first.front first.back v.reading s.ending v.goes first.clean
-    ∙ fault_here f.kind first.front first.back v.reading s.ending (place_of f) first.here v.goes))
+    ∙ fault_here f.kind first.front first.back v.reading s.ending (fault_place f) first.here v.goes))
 
 pub exact_one : (text : List ℕ) (a b : Result Script SyntaxFault) → IsExact text a → IsExact text b → a ≡ b
 exact_one text a b h k = sym (exact_is text a h) ∙ exact_is text b k

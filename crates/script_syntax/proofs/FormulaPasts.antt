@@ -24,7 +24,7 @@ use Rattle.script_syntax.specs.declared.formula.Operand.TheVariants as operands
 use Rattle.script_syntax.specs.declared.formula.Formula.{Formula}
 use Rattle.script_syntax.specs.Grammar.{Part, by_word, by_comma, then_token, else_token, ExprForm, expr_on, expr_tree, XorForm, AndForm, NotForm, CompForm, SumForm, ProdForm, UnaryForm, PrimForm, number, name, called, call, brackets, choice, choice_else, prim_on, prim_tree, ArgsForm, args_one, args_more, args_on, args_trees, call_one, call_two, call_three}
 use Rattle.script_syntax.specs.inside.Levels.{level_of, left_level}
-use Rattle.script_syntax.specs.inside.Formulas.{frame_level, hole, top_level, close, formula_step, after_value, after_due, after_name, after_called, after_if, value_mark, value_key, due_operator, due_key, due_mark, operate, opened, valued, close_in, close_bracket, next_in, next_part, then_in, then_part, otherwise_in, otherwise_part, is_open, is_close, whole, whole_operand, alone, alone_in}
+use Rattle.script_syntax.specs.inside.Formulas.{frame_level, hole, top_level, close, formula_step, after_value, after_due, after_name, after_called, after_if, value_mark, value_key, due_operator, due_key, due_mark, operate, opened, valued, close_in, close_bracket, next_in, next_part, then_in, then_part, otherwise_in, otherwise_part, is_open, is_close, whole, whole_operand, alone_of, alone_in}
 use Rattle.script_syntax.proofs.Pieces.{Piece, of_prim, piece_level, piece_on, piece_tree, as_expr, as_xor, as_and, as_not, as_sum, as_prod, as_unary, same_expr, same_xor, same_and, same_sum, same_prod, same_unary}
 use Rattle.script_syntax.proofs.Rings.{Ring, or_left, xor_left, and_left, comp_left, sum_left, prod_left, in_not, in_sign, in_brackets, in_call, in_args, in_condition, in_then, in_else, frame_of, frames_of, ring_on, rings_on, ring_level, AreTight, hole_small}
 use Rattle.script_syntax.proofs.Closing.{Closes, closes}
@@ -391,10 +391,10 @@ alone_by [] p rs q o v l on same e =
     record { form = as_expr p; tree = s.trees ∙ some_is (piece_tree p) v e; on = λ rest. s.tokens rest ∙ (on rest ∙ ap (rings_on rs) (same rest)) }
 alone_by (r ∷ ss) p rs q o v l on same e = absurd cc
 
-whole_value : (rs : List Ring) (q : PrimForm) (o : OperandPast) (v : Expr) → AreTight rs → ((rest : List Token) → prim_on q rest ≡ operand_on o rest) → alone (close 1 (prim_tree q) (frames_of rs)) ≡ Some v → IsWhole (record { rings = rs; operand = o }) v
+whole_value : (rs : List Ring) (q : PrimForm) (o : OperandPast) (v : Expr) → AreTight rs → ((rest : List Token) → prim_on q rest ≡ operand_on o rest) → alone_of (close 1 (prim_tree q) (frames_of rs)) ≡ Some v → IsWhole (record { rings = rs; operand = o }) v
 whole_value rs q o v tight same e =
     let c = close_value 1 rs q tight (omega arith) (omega arith) in
-    alone_by c.rings c.piece rs q o v c.level c.on same (ap (λ (d : Expr × List Frame). alone d) (sym c.is) ∙ e)
+    alone_by c.rings c.piece rs q o v c.level c.on same (ap (λ (d : Expr × List Frame). alone_of d) (sym c.is) ∙ e)
 
 pub whole_is : (rs : List Ring) (o : OperandPast) (v : Expr) → AreTight rs → whole (formula_of (record { rings = rs; operand = o })) ≡ Some v → IsWhole (record { rings = rs; operand = o }) v
 whole_is rs due v tight e = absurd cc

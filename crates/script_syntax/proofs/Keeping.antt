@@ -24,13 +24,13 @@ use Rattle.script_syntax.specs.declared.reading.Phase.{Phase}
 use Rattle.script_syntax.specs.declared.reading.Phase.TheVariants as phases
 use Rattle.script_syntax.specs.declared.reading.Reading.{Reading}
 use Rattle.script_syntax.specs.Grammar.{Derives}
-use Rattle.script_syntax.specs.Listed.{is_semicolon, is_section, is_before_statement, is_long, is_bad_timer, is_entry_too_many, is_statement_too_many, is_statement_start, is_most, is_large, is_last_step, is_step_number, listed_by, listed, counts_of, IsClean}
+use Rattle.script_syntax.specs.Listed.{is_semicolon, is_section, is_before_statement, is_long, is_bad_timer, is_entry_too_many, is_statement_too_many, is_statement_start, is_most, is_large, is_last_step, is_step_number, listed_by, listed, counts_behind, IsClean}
 use Rattle.script_syntax.specs.Numbers.{steps_of}
 use Rattle.script_syntax.specs.WellMade.{IsWellMade}
 use Rattle.script_syntax.specs.inside.Counting.{counts_after, timer_after, statements_after}
 use Rattle.script_syntax.specs.inside.Formulas.{formula_step, whole}
 use Rattle.script_syntax.specs.inside.Readings.{new_reading, reading_step, finish, is_mark, same_mark, kind_of, with_kind, with_whole, with_formula, with_statement}
-use Rattle.script_syntax.specs.inside.Runs.{Went, done, stuck, onward, go}
+use Rattle.script_syntax.specs.inside.Runs.{Went, done, stuck, went_onward, go}
 use Rattle.script_syntax.proofs.CountLaws.{counts_of-more}
 use Rattle.script_syntax.proofs.ScriptPasts.{mark_is}
 use Rattle.script_syntax.proofs.KeepingWords.{HasGoodWords, good_words}
@@ -501,18 +501,18 @@ kept_step : (r n : Reading) (c : Counts) (t : Token) → IsKept r c → listed_b
 unfolding Keeps
 kept_step r n c t k h e = keeps r.phase t r.script c n k (has_none c t h) e
 
-kept_go : (ts front : List Token) (r n : Reading) → IsKept r (counts_of front) → IsClean (front ++ ts) → go r ts ≡ done n → IsKept n (counts_of (front ++ ts))
+kept_go : (ts front : List Token) (r n : Reading) → IsKept r (counts_behind front) → IsClean (front ++ ts) → go r ts ≡ done n → IsKept n (counts_behind (front ++ ts))
 kept_go [] front r n k clean e =
     let same : r ≡ n = cc in
-    subst (λ (f : List Token). IsKept n (counts_of f)) (sym (append-nil front)) (subst (λ (x : Reading). IsKept x (counts_of front)) same k)
+    subst (λ (f : List Token). IsKept n (counts_behind f)) (sym (append-nil front)) (subst (λ (x : Reading). IsKept x (counts_behind front)) same k)
 kept_go (t ∷ ts) front r n k clean e = by_step (reading_step r t) t ts front r n refl k clean e (λ f m a b c. kept_go ts f m n a b c)
   where
-    by_step : (o : Option Reading) (t : Token) (ts front : List Token) (r n : Reading) → reading_step r t ≡ o → IsKept r (counts_of front) → IsClean (front ++ t ∷ ts) → onward o (t ∷ ts) (λ m. go m ts) ≡ done n → ((f : List Token) (m : Reading) → IsKept m (counts_of f) → IsClean (f ++ ts) → go m ts ≡ done n → IsKept n (counts_of (f ++ ts))) → IsKept n (counts_of (front ++ t ∷ ts))
+    by_step : (o : Option Reading) (t : Token) (ts front : List Token) (r n : Reading) → reading_step r t ≡ o → IsKept r (counts_behind front) → IsClean (front ++ t ∷ ts) → went_onward o (t ∷ ts) (λ m. go m ts) ≡ done n → ((f : List Token) (m : Reading) → IsKept m (counts_behind f) → IsClean (f ++ ts) → go m ts ≡ done n → IsKept n (counts_behind (f ++ ts))) → IsKept n (counts_behind (front ++ t ∷ ts))
     by_step None t ts front r n is k clean e next = absurd cc
     by_step (Some m) t ts front r n is k clean e next =
         let same = append_assoc front (t ∷ []) ts in
-        let step = kept_step r m (counts_of front) t k (clean front ts t refl) is in
-        subst (λ (f : List Token). IsKept n (counts_of f)) same
+        let step = kept_step r m (counts_behind front) t k (clean front ts t refl) is in
+        subst (λ (f : List Token). IsKept n (counts_behind f)) same
         (next (front ++ t ∷ []) m (subst (λ (c : Counts). IsKept m c) (sym (counts_of-more front t)) step) (subst IsClean (sym same) clean) e)
 
 -- a script within the limits
@@ -534,7 +534,7 @@ within_limits r c s k e = by_phase r.phase r.script c s k e
 pub derives-well_made : (ts : List Token) (s : Script) → Derives ts s → AreSpelled ts → IsClean ts → IsWellMade s
 derives-well_made ts s d spelled clean =
     let g = derives_done ts s d in
-    let k = within_limits g.reading (counts_of ts) s
+    let k = within_limits g.reading (counts_behind ts) s
     (kept_go ts [] new_reading g.reading (refl, refl, refl, refl, record { initial = refl; dynamic = refl; none = refl }) clean g.goes)
     g.finishes in
     let w = good_words ts g.reading s g.goes g.finishes spelled clean in

@@ -27,12 +27,12 @@ use Rattle.script_syntax.specs.declared.reading.Phase.{Phase}
 use Rattle.script_syntax.specs.declared.reading.Phase.TheVariants as phases
 use Rattle.script_syntax.specs.declared.reading.Reading.{Reading}
 use Rattle.script_syntax.specs.Grammar.{Derives}
-use Rattle.script_syntax.specs.Listed.{is_before_statement, is_counted, is_long, is_bad_timer, is_entry_too_many, is_statement_too_many, is_large, listed_by, listed, counts_of, IsClean}
+use Rattle.script_syntax.specs.Listed.{is_before_statement, is_counted, is_long, is_bad_timer, is_entry_too_many, is_statement_too_many, is_large, listed_by, listed, counts_behind, IsClean}
 use Rattle.script_syntax.specs.WellMade.{is_name, is_number, is_target, has_words, calls_in, is_well_made_binding, is_well_made_statement}
 use Rattle.script_syntax.specs.inside.Counting.{counted_after, counts_after}
 use Rattle.script_syntax.specs.inside.Formulas.{formula_step, whole}
 use Rattle.script_syntax.specs.inside.Readings.{new_reading, reading_step, finish, is_mark, kind_of, with_kind, with_whole, with_formula, with_statement}
-use Rattle.script_syntax.specs.inside.Runs.{Went, done, stuck, onward, go}
+use Rattle.script_syntax.specs.inside.Runs.{Went, done, stuck, went_onward, go}
 use Rattle.script_syntax.proofs.RunLaws.{and_is}
 use Rattle.script_syntax.proofs.CountLaws.{counts_of-more}
 use Rattle.script_syntax.proofs.ScriptPasts.{mark_is}
@@ -312,18 +312,18 @@ good_step r n c t k spelled h e =
     let neither = has_neither c t h in
     improves r.phase t r.script c n k neither (spelled neither.long) e
 
-good_go : (ts front : List Token) (r n : Reading) → IsGoodReading r (counts_of front) → AreSpelled ts → IsClean (front ++ ts) → go r ts ≡ done n → IsGoodReading n (counts_of (front ++ ts))
+good_go : (ts front : List Token) (r n : Reading) → IsGoodReading r (counts_behind front) → AreSpelled ts → IsClean (front ++ ts) → go r ts ≡ done n → IsGoodReading n (counts_behind (front ++ ts))
 good_go [] front r n k spelled clean e =
     let same : r ≡ n = cc in
-    subst (λ (f : List Token). IsGoodReading n (counts_of f)) (sym (append-nil front)) (subst (λ (x : Reading). IsGoodReading x (counts_of front)) same k)
+    subst (λ (f : List Token). IsGoodReading n (counts_behind f)) (sym (append-nil front)) (subst (λ (x : Reading). IsGoodReading x (counts_behind front)) same k)
 good_go (t ∷ ts) front r n k spelled clean e = by_step (reading_step r t) t ts front r n refl k spelled clean e (λ f m a b c d. good_go ts f m n a b c d)
   where
-    by_step : (o : Option Reading) (t : Token) (ts front : List Token) (r n : Reading) → reading_step r t ≡ o → IsGoodReading r (counts_of front) → IsSpelled t × AreSpelled ts → IsClean (front ++ t ∷ ts) → onward o (t ∷ ts) (λ m. go m ts) ≡ done n → ((f : List Token) (m : Reading) → IsGoodReading m (counts_of f) → AreSpelled ts → IsClean (f ++ ts) → go m ts ≡ done n → IsGoodReading n (counts_of (f ++ ts))) → IsGoodReading n (counts_of (front ++ t ∷ ts))
+    by_step : (o : Option Reading) (t : Token) (ts front : List Token) (r n : Reading) → reading_step r t ≡ o → IsGoodReading r (counts_behind front) → IsSpelled t × AreSpelled ts → IsClean (front ++ t ∷ ts) → went_onward o (t ∷ ts) (λ m. go m ts) ≡ done n → ((f : List Token) (m : Reading) → IsGoodReading m (counts_behind f) → AreSpelled ts → IsClean (f ++ ts) → go m ts ≡ done n → IsGoodReading n (counts_behind (f ++ ts))) → IsGoodReading n (counts_behind (front ++ t ∷ ts))
     by_step None t ts front r n is k spelled clean e next = absurd cc
     by_step (Some m) t ts front r n is k spelled clean e next =
         let same = append_assoc front (t ∷ []) ts in
-        let step = good_step r m (counts_of front) t k spelled.0 (clean front ts t refl) is in
-        subst (λ (f : List Token). IsGoodReading n (counts_of f)) same
+        let step = good_step r m (counts_behind front) t k spelled.0 (clean front ts t refl) is in
+        subst (λ (f : List Token). IsGoodReading n (counts_behind f)) same
         (next (front ++ t ∷ []) m (subst (λ (c : Counts). IsGoodReading m c) (sym (counts_of-more front t)) step) spelled.1 (subst IsClean (sym same) clean) e)
 
 -- the words of a whole script
@@ -341,4 +341,4 @@ good_finish _ q c s k e = absurd cc
 -- tokens that are taken to an end give a tree with good words
 pub good_words : (ts : List Token) (r : Reading) (s : Script) → go new_reading ts ≡ done r → finish r ≡ Some s → AreSpelled ts → IsClean ts → HasGoodWords s
 good_words ts r s e f spelled clean =
-    good_finish r.phase r.script (counts_of ts) s (good_go ts [] new_reading r (record { bindings = refl; initial = refl; dynamic = refl }) spelled clean e) f
+    good_finish r.phase r.script (counts_behind ts) s (good_go ts [] new_reading r (record { bindings = refl; initial = refl; dynamic = refl }) spelled clean e) f

@@ -9,14 +9,14 @@ use Rattle.std.proofs.lemmas.List.Sums.{prefix_len-le-length}
 use Rattle.std.proofs.Math.Seq.{take-append_seam, drop-append_seam}
 use Rattle.std.proofs.lemmas.Bool.Decides.{nat_tests}
 use Rattle.text_base.specs.Bytes.{point, plus, hyphen, small_e, capital_e}
-use Rattle.script_syntax.specs.Spelling.{PowerForm, NumberForm, is_sign, is_power_letter, sign_text, IsSignForm, IsPowerForm, power_text, IsPower, fraction_text, fraction_of, number_text, IsNumberForm, IsNumber}
+use Rattle.script_syntax.specs.Spelling.{PowerForm, NumberForm, is_sign, is_exponent_letter, sign_text, IsSignForm, IsPowerForm, power_text, IsPowerPart, fraction_bytes, fraction_of, number_text, IsNumberForm, IsNumber}
 use Rattle.script_syntax.specs.inside.Scanning.{digits_len, with_point, after_digits, mantissa_len, sign_len, with_digits, power_len, number_len}
 use Rattle.script_syntax.proofs.RunLaws.{both, cond_true, cond_false, prefix_len-all, list_all-run, list_all-front}
 
 -- ---- digits
 
 -- no letter of a power, no point and no sign is a digit
-letter_no_digit : (b : ℕ) → is_power_letter b ≡ true → is_ascii_digit b ≡ false
+letter_no_digit : (b : ℕ) → is_exponent_letter b ≡ true → is_ascii_digit b ≡ false
 letter_no_digit b h = grind (arith, nat_tests)
 
 sign_no_digit : (b : ℕ) → is_sign b ≡ true → is_ascii_digit b ≡ false
@@ -25,7 +25,7 @@ sign_no_digit b h = grind (arith, nat_tests)
 digit_no_sign : (b : ℕ) → is_ascii_digit b ≡ true → is_sign b ≡ false
 digit_no_sign b h = grind (arith, nat_tests)
 
-letter_no_point : (b : ℕ) → is_power_letter b ≡ true → (b == point) ≡ false
+letter_no_point : (b : ℕ) → is_exponent_letter b ≡ true → (b == point) ≡ false
 letter_no_point b h = grind (arith, nat_tests)
 
 -- ---- the longest number is not shorter than a number
@@ -63,7 +63,7 @@ power_at_least f xs h =
     let least = digits_at_least f.digits xs h.digits in
     let some : 0 < digits_len (f.digits ++ xs) = (let g = h.some in omega arith) in
     let is : power_len (power_text (Some f) ++ xs) ≡ 1 + length (sign_text f.sign) + min (digits_len (f.digits ++ xs)) 6 =
-    cond_true (is_power_letter f.letter) (with_digits (sign_len (sign_text f.sign ++ f.digits ++ xs)) (digits_len (drop (sign_len (sign_text f.sign ++ f.digits ++ xs)) (sign_text f.sign ++ f.digits ++ xs)))) 0 h.lettered
+    cond_true (is_exponent_letter f.letter) (with_digits (sign_len (sign_text f.sign ++ f.digits ++ xs)) (digits_len (drop (sign_len (sign_text f.sign ++ f.digits ++ xs)) (sign_text f.sign ++ f.digits ++ xs)))) 0 h.lettered
     ∙ (ap (λ (n : ℕ). with_digits (sign_len (sign_text f.sign ++ f.digits ++ xs)) n) d
     ∙ (ap (λ (n : ℕ). with_digits n (digits_len (f.digits ++ xs))) s.0 ∙ with_digits_some (length (sign_text f.sign)) (digits_len (f.digits ++ xs)) some)) in
     let few = h.few in
@@ -103,13 +103,13 @@ whole_at_least whole xs w =
     subst P (sym (append-nil whole)) (omega arith)
 
 -- a number without a power is not longer than the longest
-mantissa_at_least : (whole : List ℕ) (fraction : Option (List ℕ)) (xs : List ℕ) → list_all is_ascii_digit whole ≡ true → list_all is_ascii_digit (fraction_of fraction) ≡ true → 0 < length whole + length (fraction_of fraction) → length (whole ++ fraction_text fraction) ≤ mantissa_len ((whole ++ fraction_text fraction) ++ xs)
+mantissa_at_least : (whole : List ℕ) (fraction : Option (List ℕ)) (xs : List ℕ) → list_all is_ascii_digit whole ≡ true → list_all is_ascii_digit (fraction_of fraction) ≡ true → 0 < length whole + length (fraction_of fraction) → length (whole ++ fraction_bytes fraction) ≤ mantissa_len ((whole ++ fraction_bytes fraction) ++ xs)
 mantissa_at_least whole None xs w f some = whole_at_least whole xs w
 mantissa_at_least whole (Some ds) xs w f some =
     let least = digits_at_least ds xs f in
     omega (arith, pointed_is whole ds xs w f some, length-append whole (point ∷ ds))
 
-whole_is : (whole : List ℕ) (b : ℕ) (xs : List ℕ) → list_all is_ascii_digit whole ≡ true → is_power_letter b ≡ true → mantissa_len ((whole ++ []) ++ b ∷ xs) ≡ length (whole ++ [])
+whole_is : (whole : List ℕ) (b : ℕ) (xs : List ℕ) → list_all is_ascii_digit whole ≡ true → is_exponent_letter b ≡ true → mantissa_len ((whole ++ []) ++ b ∷ xs) ≡ length (whole ++ [])
 unfolding mantissa_len
 whole_is whole b xs w l =
     let d : digits_len (whole ++ b ∷ xs) ≡ length whole = digits_before whole b xs w (letter_no_digit b l) in
@@ -120,7 +120,7 @@ whole_is whole b xs w l =
     ∙ (d ∙ ap length (sym (append-nil whole)))))
 
 -- how long a number without a power is, where a power follows
-mantissa_is : (whole : List ℕ) (fraction : Option (List ℕ)) (b : ℕ) (xs : List ℕ) → list_all is_ascii_digit whole ≡ true → list_all is_ascii_digit (fraction_of fraction) ≡ true → 0 < length whole + length (fraction_of fraction) → is_power_letter b ≡ true → mantissa_len ((whole ++ fraction_text fraction) ++ b ∷ xs) ≡ length (whole ++ fraction_text fraction)
+mantissa_is : (whole : List ℕ) (fraction : Option (List ℕ)) (b : ℕ) (xs : List ℕ) → list_all is_ascii_digit whole ≡ true → list_all is_ascii_digit (fraction_of fraction) ≡ true → 0 < length whole + length (fraction_of fraction) → is_exponent_letter b ≡ true → mantissa_len ((whole ++ fraction_bytes fraction) ++ b ∷ xs) ≡ length (whole ++ fraction_bytes fraction)
 mantissa_is whole None b xs w f some l = whole_is whole b xs w l
 mantissa_is whole (Some ds) b xs w f some l =
     let d = digits_before ds b xs f (letter_no_digit b l) in
@@ -130,7 +130,7 @@ number_is : (text : List ℕ) → 0 < mantissa_len text → number_len text ≡ 
 unfolding number_len
 number_is text h = let some : (mantissa_len text == 0) ≡ false = grind (arith, nat_tests) in cond_false (mantissa_len text == 0) 0 (mantissa_len text + power_len (drop (mantissa_len text) text)) some
 
-mantissa_some : (whole : List ℕ) (fraction : Option (List ℕ)) → 0 < length whole + length (fraction_of fraction) → 0 < length (whole ++ fraction_text fraction)
+mantissa_some : (whole : List ℕ) (fraction : Option (List ℕ)) → 0 < length whole + length (fraction_of fraction) → 0 < length (whole ++ fraction_bytes fraction)
 mantissa_some whole None h = omega (arith, length-append {A = ℕ} whole [])
 mantissa_some whole (Some ds) h = omega (arith, length-append whole (point ∷ ds))
 
@@ -138,16 +138,16 @@ mantissa_some whole (Some ds) h = omega (arith, length-append whole (point ∷ d
 pub number_longest : (f : NumberForm) (xs : List ℕ) → IsNumberForm f → length (number_text f) ≤ number_len (number_text f ++ xs)
 number_longest f xs h = by_power f.whole f.fraction f.power xs h.whole h.fraction h.some h.power
   where
-    by_power : (whole : List ℕ) (fraction : Option (List ℕ)) (power : Option PowerForm) (xs : List ℕ) → list_all is_ascii_digit whole ≡ true → list_all is_ascii_digit (fraction_of fraction) ≡ true → 0 < length whole + length (fraction_of fraction) → IsPower power → length ((whole ++ fraction_text fraction) ++ power_text power) ≤ number_len (((whole ++ fraction_text fraction) ++ power_text power) ++ xs)
+    by_power : (whole : List ℕ) (fraction : Option (List ℕ)) (power : Option PowerForm) (xs : List ℕ) → list_all is_ascii_digit whole ≡ true → list_all is_ascii_digit (fraction_of fraction) ≡ true → 0 < length whole + length (fraction_of fraction) → IsPowerPart power → length ((whole ++ fraction_bytes fraction) ++ power_text power) ≤ number_len (((whole ++ fraction_bytes fraction) ++ power_text power) ++ xs)
     by_power whole fraction None xs w d some p =
         let m = mantissa_at_least whole fraction xs w d some in
         let s = mantissa_some whole fraction some in
-        let n : 0 < mantissa_len ((whole ++ fraction_text fraction) ++ xs) = omega arith in
-        let is = number_is ((whole ++ fraction_text fraction) ++ xs) n in
+        let n : 0 < mantissa_len ((whole ++ fraction_bytes fraction) ++ xs) = omega arith in
+        let is = number_is ((whole ++ fraction_bytes fraction) ++ xs) n in
         let P : List ℕ → Type 0 = λ ys. length ys ≤ number_len (ys ++ xs) in
-        subst P (sym (append-nil (whole ++ fraction_text fraction))) (omega arith)
+        subst P (sym (append-nil (whole ++ fraction_bytes fraction))) (omega arith)
     by_power whole fraction (Some g) xs w d some p =
-        let front = whole ++ fraction_text fraction in
+        let front = whole ++ fraction_bytes fraction in
         let tail = (sign_text g.sign ++ g.digits) ++ xs in
         let m : mantissa_len (front ++ g.letter ∷ tail) ≡ length front = mantissa_is whole fraction g.letter tail w d some p.lettered in
         let s = mantissa_some whole fraction some in
@@ -176,8 +176,8 @@ record IsMantissa (text : List ℕ) : Type 0 where
   digits : list_all is_ascii_digit whole ≡ true
   behind : list_all is_ascii_digit (fraction_of fraction) ≡ true
   some : 0 < length whole + length (fraction_of fraction)
-  parts : text ≡ (whole ++ fraction_text fraction) ++ rest
-  len : mantissa_len text ≡ length (whole ++ fraction_text fraction)
+  parts : text ≡ (whole ++ fraction_bytes fraction) ++ rest
+  len : mantissa_len text ≡ length (whole ++ fraction_bytes fraction)
 
 whole_mantissa : (text rest : List ℕ) → 0 < digits_len text → drop (digits_len text) text ≡ rest → mantissa_len text ≡ digits_len text → IsMantissa text
 whole_mantissa text rest some r is =
@@ -240,7 +240,7 @@ mantissa_sound text h = mantissa_rest_by (drop (digits_len text) text) text refl
 -- a power at the front of a text, or none
 record IsPowerAt (text : List ℕ) : Type 0 where
   power : Option PowerForm
-  is : IsPower power
+  is : IsPowerPart power
   rest : List ℕ
   parts : text ≡ power_text power ++ rest
   len : power_len text ≡ length (power_text power)
@@ -248,10 +248,10 @@ record IsPowerAt (text : List ℕ) : Type 0 where
 no_power : (text : List ℕ) → power_len text ≡ 0 → IsPowerAt text
 no_power text h = record { power = None; is = tt; rest = text; parts = refl; len = h }
 
-some_power : (b : ℕ) (s : Option ℕ) (ys : List ℕ) (text : List ℕ) → is_power_letter b ≡ true → IsSignForm s → text ≡ b ∷ sign_text s ++ ys → power_len text ≡ with_digits (length (sign_text s)) (digits_len ys) → IsPowerAt text
+some_power : (b : ℕ) (s : Option ℕ) (ys : List ℕ) (text : List ℕ) → is_exponent_letter b ≡ true → IsSignForm s → text ≡ b ∷ sign_text s ++ ys → power_len text ≡ with_digits (length (sign_text s)) (digits_len ys) → IsPowerAt text
 some_power b s ys text l g e is = by_digits (digits_len ys == 0) b s ys text l g e refl is
   where
-    by_digits : (t : Bool) (b : ℕ) (s : Option ℕ) (ys : List ℕ) (text : List ℕ) → is_power_letter b ≡ true → IsSignForm s → text ≡ b ∷ sign_text s ++ ys → (digits_len ys == 0) ≡ t → power_len text ≡ with_digits (length (sign_text s)) (digits_len ys) → IsPowerAt text
+    by_digits : (t : Bool) (b : ℕ) (s : Option ℕ) (ys : List ℕ) (text : List ℕ) → is_exponent_letter b ≡ true → IsSignForm s → text ≡ b ∷ sign_text s ++ ys → (digits_len ys == 0) ≡ t → power_len text ≡ with_digits (length (sign_text s)) (digits_len ys) → IsPowerAt text
     by_digits true b s ys text l g e t is = no_power text (is ∙ cond_true (digits_len ys == 0) 0 (1 + length (sign_text s) + min (digits_len ys) 6) t)
     by_digits false b s ys text l g e t is =
         let k = min (digits_len ys) 6 in
@@ -273,11 +273,11 @@ power_none : power_len [] ≡ 0
 unfolding power_len
 power_none = refl
 
-power_at : (b : ℕ) (bs : List ℕ) → power_len (b ∷ bs) ≡ (if is_power_letter b then with_digits (sign_len bs) (digits_len (drop (sign_len bs) bs)) else 0)
+power_at : (b : ℕ) (bs : List ℕ) → power_len (b ∷ bs) ≡ (if is_exponent_letter b then with_digits (sign_len bs) (digits_len (drop (sign_len bs) bs)) else 0)
 unfolding power_len
 power_at b bs = refl
 
-power_sign_by : (t : Bool) (b c : ℕ) (cs : List ℕ) → is_power_letter b ≡ true → is_sign c ≡ t → power_len (b ∷ c ∷ cs) ≡ with_digits (sign_len (c ∷ cs)) (digits_len (drop (sign_len (c ∷ cs)) (c ∷ cs))) → IsPowerAt (b ∷ c ∷ cs)
+power_sign_by : (t : Bool) (b c : ℕ) (cs : List ℕ) → is_exponent_letter b ≡ true → is_sign c ≡ t → power_len (b ∷ c ∷ cs) ≡ with_digits (sign_len (c ∷ cs)) (digits_len (drop (sign_len (c ∷ cs)) (c ∷ cs))) → IsPowerAt (b ∷ c ∷ cs)
 power_sign_by true b c cs l s is =
     let one : sign_len (c ∷ cs) ≡ 1 = cond_true (is_sign c) 1 0 s in
     some_power b (Some c) cs (b ∷ c ∷ cs) l s refl (is ∙ ap (λ (n : ℕ). with_digits n (digits_len (drop n (c ∷ cs)))) one)
@@ -285,14 +285,14 @@ power_sign_by false b c cs l s is =
     let none : sign_len (c ∷ cs) ≡ 0 = cond_false (is_sign c) 1 0 s in
     some_power b None (c ∷ cs) (b ∷ c ∷ cs) l tt refl (is ∙ ap (λ (n : ℕ). with_digits n (digits_len (drop n (c ∷ cs)))) none)
 
-power_letter_by : (t : Bool) (b : ℕ) (bs : List ℕ) → is_power_letter b ≡ t → IsPowerAt (b ∷ bs)
-power_letter_by false b bs l = no_power (b ∷ bs) (power_at b bs ∙ cond_false (is_power_letter b) (with_digits (sign_len bs) (digits_len (drop (sign_len bs) bs))) 0 l)
-power_letter_by true b [] l = some_power b None [] (b ∷ []) l tt refl (power_at b [] ∙ cond_true (is_power_letter b) (with_digits (sign_len []) (digits_len (drop (sign_len []) []))) 0 l)
-power_letter_by true b (c ∷ cs) l = power_sign_by (is_sign c) b c cs l refl (power_at b (c ∷ cs) ∙ cond_true (is_power_letter b) (with_digits (sign_len (c ∷ cs)) (digits_len (drop (sign_len (c ∷ cs)) (c ∷ cs)))) 0 l)
+power_letter_by : (t : Bool) (b : ℕ) (bs : List ℕ) → is_exponent_letter b ≡ t → IsPowerAt (b ∷ bs)
+power_letter_by false b bs l = no_power (b ∷ bs) (power_at b bs ∙ cond_false (is_exponent_letter b) (with_digits (sign_len bs) (digits_len (drop (sign_len bs) bs))) 0 l)
+power_letter_by true b [] l = some_power b None [] (b ∷ []) l tt refl (power_at b [] ∙ cond_true (is_exponent_letter b) (with_digits (sign_len []) (digits_len (drop (sign_len []) []))) 0 l)
+power_letter_by true b (c ∷ cs) l = power_sign_by (is_sign c) b c cs l refl (power_at b (c ∷ cs) ∙ cond_true (is_exponent_letter b) (with_digits (sign_len (c ∷ cs)) (digits_len (drop (sign_len (c ∷ cs)) (c ∷ cs)))) 0 l)
 
 power_sound : (text : List ℕ) → IsPowerAt text
 power_sound [] = no_power [] power_none
-power_sound (b ∷ bs) = power_letter_by (is_power_letter b) b bs refl
+power_sound (b ∷ bs) = power_letter_by (is_exponent_letter b) b bs refl
 
 no_number : (text : List ℕ) → mantissa_len text ≡ 0 → number_len text ≡ 0
 unfolding number_len
@@ -307,7 +307,7 @@ number_sound text h = by_mantissa (mantissa_len text) text refl h
     by_mantissa (suc m) text is h =
         let a = mantissa_sound text (omega arith) in
         let p = power_sound (drop (mantissa_len text) text) in
-        let front = a.whole ++ fraction_text a.fraction in
+        let front = a.whole ++ fraction_bytes a.fraction in
         let n = number_is text (omega arith) in
         let r : drop (mantissa_len text) text ≡ a.rest = ap (λ (k : ℕ). drop k text) a.len ∙ (ap (drop (length front)) a.parts ∙ drop-append_seam front a.rest) in
         let f : NumberForm = record { whole = a.whole; fraction = a.fraction; power = p.power } in

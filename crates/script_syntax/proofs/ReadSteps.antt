@@ -13,18 +13,18 @@ use Rattle.script_syntax.specs.declared.scanner.Placed.{Placed}
 use Rattle.script_syntax.specs.declared.scanner.Scanner.{Scanner}
 use Rattle.script_syntax.specs.declared.reading.Reading.{Reading}
 use Rattle.script_syntax.specs.Answers.{Reads}
-use Rattle.script_syntax.specs.Faults.{place_behind}
-use Rattle.script_syntax.specs.Listed.{is_semicolon, is_section, is_timer, is_before_statement, is_counted, counts_of}
+use Rattle.script_syntax.specs.Faults.{place_after_token}
+use Rattle.script_syntax.specs.Listed.{is_semicolon, is_section, is_timer, is_before_statement, is_counted, counts_behind}
 use Rattle.script_syntax.specs.Places.{first_place}
 use Rattle.script_syntax.specs.Tokens.{Ending, Whole, Byte, Scanned}
-use Rattle.script_syntax.specs.inside.Counting.{IsBelow, AreBelow, one_more, timer_after, statements_after, counted_after, counts_after}
+use Rattle.script_syntax.specs.inside.Counting.{IsCountBelow, AreBelow, one_more, timer_after, statements_after, counted_after, counts_after}
 use Rattle.script_syntax.specs.inside.Reading.{at_end, step_at, and_then, read_from, read_scanned, tree_of}
 use Rattle.script_syntax.specs.inside.Readings.{new_reading}
 use Rattle.script_syntax.specs.inside.Scanner.{scan_of}
 use Rattle.script_syntax.specs.inside.Scanning.{scan, scanned, with_token}
 
 -- one token, and then the others
-pub read_scanned-token : (r : Reading) (c : Counts) (end : Place) (old new : Scanned) (t : Placed) → old ≡ with_token t new → read_scanned r c end old ≡ and_then (step_at r c t) (λ n. read_scanned n (counts_after c t.token) (place_behind t) new)
+pub read_scanned-token : (r : Reading) (c : Counts) (end : Place) (old new : Scanned) (t : Placed) → old ≡ with_token t new → read_scanned r c end old ≡ and_then (step_at r c t) (λ n. read_scanned n (counts_after c t.token) (place_after_token t) new)
 unfolding read_scanned
 read_scanned-token r c end old new t e = ap (λ (s : Scanned). read_from r c end s.tokens s.ending) e
 
@@ -43,27 +43,27 @@ refused (Err (errors.Syntax f)) (errors.Syntax g) step next all h k is =
     is ∙ (ap (λ (s : Result Reading SyntaxFault). and_then s next) k ∙ ap Err (sym same))
 
 -- a token that was taken
-pub taken : (r n : Reading) (c : Counts) (end : Place) (old new : Scanned) (t : Placed) → old ≡ with_token t new → step_at r c t ≡ Ok n → read_scanned n (counts_after c t.token) (place_behind t) new ≡ read_scanned r c end old
+pub taken : (r n : Reading) (c : Counts) (end : Place) (old new : Scanned) (t : Placed) → old ≡ with_token t new → step_at r c t ≡ Ok n → read_scanned n (counts_after c t.token) (place_after_token t) new ≡ read_scanned r c end old
 taken r n c end old new t e s =
-    sym (read_scanned-token r c end old new t e ∙ ap (λ (x : Result Reading SyntaxFault). and_then x (λ m. read_scanned m (counts_after c t.token) (place_behind t) new)) s)
+    sym (read_scanned-token r c end old new t e ∙ ap (λ (x : Result Reading SyntaxFault). and_then x (λ m. read_scanned m (counts_after c t.token) (place_after_token t) new)) s)
 
 -- ---- counts stay small
 
-below_more : (o : Option ℕ) (n m : ℕ) → IsBelow o n → n + 1 ≤ m → 1 < m → IsBelow (one_more o) m
+below_more : (o : Option ℕ) (n m : ℕ) → IsCountBelow o n → n + 1 ≤ m → 1 < m → IsCountBelow (one_more o) m
 below_more None n m h l k = tt
 below_more (Some x) n m h l k = omega arith
 
-below_timer : (o : Option ℕ) (t : Token) (n m : ℕ) → IsBelow o n → n + 1 ≤ m → 1 < m → IsBelow (timer_after o t) m
+below_timer : (o : Option ℕ) (t : Token) (n m : ℕ) → IsCountBelow o n → n + 1 ≤ m → 1 < m → IsCountBelow (timer_after o t) m
 below_timer o t n m h l k = by_test (is_timer t) o n m h l k
   where
-    by_test : (b : Bool) (o : Option ℕ) (n m : ℕ) → IsBelow o n → n + 1 ≤ m → 1 < m → IsBelow (if b then Some 0 else one_more o) m
+    by_test : (b : Bool) (o : Option ℕ) (n m : ℕ) → IsCountBelow o n → n + 1 ≤ m → 1 < m → IsCountBelow (if b then Some 0 else one_more o) m
     by_test true o n m h l k = omega arith
     by_test false o n m h l k = below_more o n m h l k
 
-below_statements : (o : Option ℕ) (t : Token) (n m : ℕ) → IsBelow o n → n + 1 ≤ m → 1 < m → IsBelow (statements_after o t) m
+below_statements : (o : Option ℕ) (t : Token) (n m : ℕ) → IsCountBelow o n → n + 1 ≤ m → 1 < m → IsCountBelow (statements_after o t) m
 below_statements None t n m h l k = by_test (is_section t) m k
   where
-    by_test : (b : Bool) (m : ℕ) → 1 < m → IsBelow (if b then Some 0 else None) m
+    by_test : (b : Bool) (m : ℕ) → 1 < m → IsCountBelow (if b then Some 0 else None) m
     by_test true m k = omega arith
     by_test false m k = tt
 below_statements (Some x) t n m h l k = by_test (is_semicolon t) x n m h l
@@ -94,13 +94,13 @@ below_after c t n m h l =
 
 -- ---- the whole text
 
-pub tree_of-is : (text : List ℕ) (s : Scanner) (r : Reading) → s.rest.now ≡ text → s.mode ≡ Bindings → s.place ≡ first_place → r ≡ new_reading → read_scanned r (counts_of []) s.place (scan_of s) ≡ tree_of text
+pub tree_of-is : (text : List ℕ) (s : Scanner) (r : Reading) → s.rest.now ≡ text → s.mode ≡ Bindings → s.place ≡ first_place → r ≡ new_reading → read_scanned r (counts_behind []) s.place (scan_of s) ≡ tree_of text
 unfolding tree_of scan_of
 tree_of-is text s r rest mode place new =
-    ap (λ (x : Reading). read_scanned x (counts_of []) s.place (scan s.rest.now 0 s.mode s.place)) new
-    ∙ (ap (λ (ys : List ℕ). read_scanned new_reading (counts_of []) s.place (scan ys 0 s.mode s.place)) rest
-    ∙ (ap (λ m. read_scanned new_reading (counts_of []) s.place (scan text 0 m s.place)) mode
-    ∙ ap (λ (p : Place). read_scanned new_reading (counts_of []) p (scan text 0 Bindings p)) place))
+    ap (λ (x : Reading). read_scanned x (counts_behind []) s.place (scan s.rest.now 0 s.mode s.place)) new
+    ∙ (ap (λ (ys : List ℕ). read_scanned new_reading (counts_behind []) s.place (scan ys 0 s.mode s.place)) rest
+    ∙ (ap (λ m. read_scanned new_reading (counts_behind []) s.place (scan text 0 m s.place)) mode
+    ∙ ap (λ (p : Place). read_scanned new_reading (counts_behind []) p (scan text 0 Bindings p)) place))
 
 -- an answer that is this fault
 pub faulty : {X : Type 0} (e : ReadScript) (f : SyntaxFault) (has : Result X SyntaxFault) → e ≡ errors.Syntax f → has ≡ Err f → Reads {X = X} (Err e) has

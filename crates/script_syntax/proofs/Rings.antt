@@ -15,7 +15,7 @@ use Rattle.script_syntax.specs.declared.tree.Expr.{Expr}
 use Rattle.script_syntax.specs.declared.tree.Expr.TheVariants as exprs
 use Rattle.script_syntax.specs.declared.frames.Frame.{Frame}
 use Rattle.script_syntax.specs.declared.frames.Frame.TheVariants as frames
-use Rattle.script_syntax.specs.Grammar.{Part, by_word, by_comma, then_token, else_token, ExprForm, expr_more, expr_on, expr_tree, XorForm, xor_more, xor_on, xor_tree, AndForm, and_more, and_on, and_tree, NotForm, negated, not_on, not_tree, CompForm, compared, comp_on, comp_tree, SumForm, sum_more, sum_on, sum_tree, ProdForm, prod_more, prod_on, prod_tree, UnaryForm, negative, unary_on, unary_tree, PrimForm, number, name, called, call, brackets, choice, choice_else, prim_on, prim_tree, ArgsForm, args_one, args_more, args_on, args_trees, operator_word, joined, call_one}
+use Rattle.script_syntax.specs.Grammar.{Part, by_word, by_comma, then_token, else_token, ExprForm, expr_more, expr_on, expr_tree, XorForm, xor_more, xor_on, xor_tree, AndForm, and_more, and_on, and_tree, NotForm, negated, not_on, not_tree, CompForm, comp_two, comp_on, comp_tree, SumForm, sum_more, sum_on, sum_tree, ProdForm, prod_more, prod_on, prod_tree, UnaryForm, negative, unary_on, unary_tree, PrimForm, number, name, called, call, brackets, choice, choice_else, prim_on, prim_tree, ArgsForm, args_one, args_more, args_on, args_trees, operator_word, call_joined, call_one}
 use Rattle.script_syntax.specs.inside.Levels.{level_of, right_level}
 use Rattle.script_syntax.specs.inside.Formulas.{frame_level, frame_hole, hole, top_level, closed, close}
 use Rattle.script_syntax.proofs.Pieces.{Piece, of_expr, of_xor, of_and, of_not, of_comp, of_sum, of_prod, of_unary, of_prim, piece_level, piece_on, piece_tree, as_expr, as_xor, as_and, as_not, as_sum, as_prod, as_unary, same_expr, same_xor, same_and, same_not, same_sum, same_prod, same_unary, IsSame}
@@ -127,7 +127,7 @@ abbrev pub joins : Ring → Piece → Piece
 joins (or_left e) p = of_expr (expr_more e (as_xor p))
 joins (xor_left x) p = of_xor (xor_more x (as_and p))
 joins (and_left a) p = of_and (and_more a (as_not p))
-joins (comp_left s c) p = of_comp (compared s c (as_sum p))
+joins (comp_left s c) p = of_comp (comp_two s c (as_sum p))
 joins (sum_left s g) p = of_sum (sum_more s g (as_prod p))
 joins (prod_left x f) p = of_prod (prod_more x f (as_unary p))
 joins in_not p = of_not (negated (as_not p))
@@ -147,17 +147,17 @@ pub record IsJoined (r : Ring) (p : Piece) : Type 0 where
 
 pub joins_is : (r : Ring) (p : Piece) → 0 < frame_level (frame_of r) → frame_hole (frame_of r) ≤ piece_level p → IsJoined r p
 joins_is (or_left e) p l h = let s = same_xor p h in
-    record { tree = ap (λ t. joined operators.Or (expr_tree e) t) (sym s.trees); on = λ rest. ap (λ ts. expr_on e (tokens.Operator operators.Or ∷ ts)) (s.tokens rest); level = refl }
+    record { tree = ap (λ t. call_joined operators.Or (expr_tree e) t) (sym s.trees); on = λ rest. ap (λ ts. expr_on e (tokens.Operator operators.Or ∷ ts)) (s.tokens rest); level = refl }
 joins_is (xor_left x) p l h = let s = same_and p h in
-    record { tree = ap (λ t. joined operators.Xor (xor_tree x) t) (sym s.trees); on = λ rest. ap (λ ts. xor_on x (tokens.Operator operators.Xor ∷ ts)) (s.tokens rest); level = refl }
+    record { tree = ap (λ t. call_joined operators.Xor (xor_tree x) t) (sym s.trees); on = λ rest. ap (λ ts. xor_on x (tokens.Operator operators.Xor ∷ ts)) (s.tokens rest); level = refl }
 joins_is (and_left a) p l h = let s = same_not p h in
-    record { tree = ap (λ t. joined operators.And (and_tree a) t) (sym s.trees); on = λ rest. ap (λ ts. and_on a (tokens.Operator operators.And ∷ ts)) (s.tokens rest); level = refl }
+    record { tree = ap (λ t. call_joined operators.And (and_tree a) t) (sym s.trees); on = λ rest. ap (λ ts. and_on a (tokens.Operator operators.And ∷ ts)) (s.tokens rest); level = refl }
 joins_is (comp_left x c) p l h = let s = same_sum p h in
-    record { tree = ap (λ t. joined (operators.Compare c) (sum_tree x) t) (sym s.trees); on = λ rest. ap (λ ts. sum_on x (tokens.Operator (operators.Compare c) ∷ ts)) (s.tokens rest); level = refl }
+    record { tree = ap (λ t. call_joined (operators.Compare c) (sum_tree x) t) (sym s.trees); on = λ rest. ap (λ ts. sum_on x (tokens.Operator (operators.Compare c) ∷ ts)) (s.tokens rest); level = refl }
 joins_is (sum_left x g) p l h = let s = same_prod p h in
-    record { tree = ap (λ t. joined (operators.Sum g) (sum_tree x) t) (sym s.trees); on = λ rest. ap (λ ts. sum_on x (tokens.Operator (operators.Sum g) ∷ ts)) (s.tokens rest); level = refl }
+    record { tree = ap (λ t. call_joined (operators.Sum g) (sum_tree x) t) (sym s.trees); on = λ rest. ap (λ ts. sum_on x (tokens.Operator (operators.Sum g) ∷ ts)) (s.tokens rest); level = refl }
 joins_is (prod_left x f) p l h = let s = same_unary p h in
-    record { tree = ap (λ t. joined (operators.Product f) (prod_tree x) t) (sym s.trees); on = λ rest. ap (λ ts. prod_on x (tokens.Operator (operators.Product f) ∷ ts)) (s.tokens rest); level = refl }
+    record { tree = ap (λ t. call_joined (operators.Product f) (prod_tree x) t) (sym s.trees); on = λ rest. ap (λ ts. prod_on x (tokens.Operator (operators.Product f) ∷ ts)) (s.tokens rest); level = refl }
 joins_is in_not p l h = let s = same_not p h in
     record { tree = ap (λ t. call_one (codes "not") t) (sym s.trees); on = λ rest. ap (λ ts. tokens.Not ∷ ts) (s.tokens rest); level = refl }
 joins_is in_sign p l h = let s = same_unary p h in

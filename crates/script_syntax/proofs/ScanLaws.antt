@@ -17,7 +17,7 @@ use Rattle.script_syntax.specs.declared.scanner.Placed.{Placed}
 use Rattle.script_syntax.specs.declared.scanner.Scanner.{Scanner}
 use Rattle.script_syntax.specs.Places.{first_place, after_byte, after_bytes}
 use Rattle.script_syntax.specs.Spelling.{Spells, mode_after}
-use Rattle.script_syntax.specs.Tokens.{Ending, Whole, Byte, Scanned, hash, Gap, no_gap, blank, comment, gap_on, EndsComment, is_comment_byte, IsGap, IsLongest, IsNext, IsBlankText, IsBadByte, Ends, AreTokensFrom, AreTokens}
+use Rattle.script_syntax.specs.Tokens.{Ending, Whole, Byte, Scanned, hash, Gap, no_gap, blank, comment, gap_on, EndsComment, is_comment_byte, IsGap, IsLongest, IsNext, IsBlankText, IsBadByte, Ends, AreTokensFrom, AreScriptTokens}
 use Rattle.script_syntax.specs.inside.Scanning.{comment_len, scanned, with_token, at_token, at_front, scan, token_at}
 use Rattle.script_syntax.specs.inside.Scanner.{gap_len, scan_of}
 use Rattle.script_syntax.proofs.RunLaws.{cond_true, cond_false, prefix_len-all, list_all-run}
@@ -305,10 +305,10 @@ left_is (b ∷ bs) zero m p h = left_first b bs m p (λ n k l. left_is bs n k (a
 
 -- ---- the law
 
-pub tokens_one : (text : List ℕ) (s : Scanned) → AreTokens text s → s ≡ scan text 0 Bindings first_place
+pub tokens_one : (text : List ℕ) (s : Scanned) → AreScriptTokens text s → s ≡ scan text 0 Bindings first_place
 tokens_one text s h = sym (tokens_found s.tokens s.ending Bindings first_place text h)
 
-pub tokens_are : (text : List ℕ) → AreTokens text (scan text 0 Bindings first_place)
+pub tokens_are : (text : List ℕ) → AreScriptTokens text (scan text 0 Bindings first_place)
 tokens_are text = left_is text 0 Bindings first_place (omega arith)
 
 -- ---- the scanner behind a gap

@@ -14,7 +14,7 @@ use Rattle.script_syntax.specs.declared.token.Token.TheVariants as tokens
 use Rattle.script_syntax.specs.declared.place.Mode.{Mode}
 use Rattle.script_syntax.specs.declared.place.Mode.TheVariants.{Bindings, BoundFile, AreaFile, Sections}
 use Rattle.script_syntax.specs.declared.lexer.Found.{Found}
-use Rattle.script_syntax.specs.Spelling.{is_word, word_token, NumberForm, number_text, fraction_text, fraction_of, power_text, IsNumberForm, IsNumber, beside, one_byte_symbols, one_byte_symbol, equal_symbols, two_byte_symbol, symbol_token, is_run, begins_run, run_token, SpellsPlain, SpellsFile, Spells}
+use Rattle.script_syntax.specs.Spelling.{is_word_text, word_token, NumberForm, number_text, fraction_bytes, fraction_of, power_text, IsNumberForm, IsNumber, beside, one_byte_symbols, one_byte_symbol, equal_symbols, two_byte_symbol, symbol_token, is_run, begins_run, run_token, SpellsPlain, SpellsFile, Spells}
 use Rattle.script_syntax.specs.inside.Scanning.{digits_len, after_digits, with_point, mantissa_len, number_len, found, symbol_of_len, or_else, symbol_at, number_of_len, plain_at, file_at, token_at}
 use Rattle.script_syntax.proofs.RunLaws.{both, and_is, cond_true, cond_false, prefix_len-all, list_all-run}
 use Rattle.script_syntax.proofs.NumberLaws.{number_longest, number_sound}
@@ -91,7 +91,7 @@ start_point c e = subst IsStart e (record { start = point_start; no_letter = ref
 number_first : (b : ℕ) (bs : List ℕ) → IsNumber (b ∷ bs) → IsStart b
 number_first b bs n = by_whole n.form.whole n.form.fraction (power_text n.form.power) b bs n.is.whole n.is.some n.text
   where
-    by_whole : (whole : List ℕ) (fraction : Option (List ℕ)) (power : List ℕ) (b : ℕ) (bs : List ℕ) → list_all is_ascii_digit whole ≡ true → 0 < length whole + length (fraction_of fraction) → (whole ++ fraction_text fraction) ++ power ≡ b ∷ bs → IsStart b
+    by_whole : (whole : List ℕ) (fraction : Option (List ℕ)) (power : List ℕ) (b : ℕ) (bs : List ℕ) → list_all is_ascii_digit whole ≡ true → 0 < length whole + length (fraction_of fraction) → (whole ++ fraction_bytes fraction) ++ power ≡ b ∷ bs → IsStart b
     by_whole [] None power b bs w some e = absurd (omega arith)
     by_whole [] (Some ds) power b bs w some e = start_point b cc
     by_whole (d ∷ ds) fraction power b bs w some e = start_digit d b (both (is_ascii_digit d) (list_all is_ascii_digit ds) w).0 cc
@@ -99,7 +99,7 @@ number_first b bs n = by_whole n.form.whole n.form.fraction (power_text n.form.p
 no_empty_number : IsNumber [] → ⊥
 no_empty_number n = by_whole n.form.whole n.form.fraction (power_text n.form.power) n.is.some n.text
   where
-    by_whole : (whole : List ℕ) (fraction : Option (List ℕ)) (power : List ℕ) → 0 < length whole + length (fraction_of fraction) → (whole ++ fraction_text fraction) ++ power ≡ [] → ⊥
+    by_whole : (whole : List ℕ) (fraction : Option (List ℕ)) (power : List ℕ) → 0 < length whole + length (fraction_of fraction) → (whole ++ fraction_bytes fraction) ++ power ≡ [] → ⊥
     by_whole [] None power some e = omega arith
     by_whole [] (Some ds) power some e = cc
     by_whole (d ∷ ds) fraction power some e = cc

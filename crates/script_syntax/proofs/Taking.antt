@@ -31,11 +31,11 @@ use Rattle.script_syntax.specs.declared.reading.Phase.{Phase}
 use Rattle.script_syntax.specs.declared.reading.Phase.TheVariants as phases
 use Rattle.script_syntax.specs.declared.reading.Reading.{Reading}
 use Rattle.script_syntax.specs.Numbers.{steps_of}
-use Rattle.script_syntax.specs.Grammar.{Part, by_word, by_comma, then_token, else_token, ExprForm, expr_one, expr_more, expr_on, expr_tree, XorForm, xor_one, xor_more, xor_on, xor_tree, AndForm, and_one, and_more, and_on, and_tree, NotForm, negated, not_comp, not_on, not_tree, CompForm, comp_one, compared, comp_on, comp_tree, SumForm, sum_one, sum_more, sum_on, sum_tree, ProdForm, prod_one, prod_more, prod_on, prod_tree, UnaryForm, negative, unary_prim, unary_on, unary_tree, PrimForm, number, name, called, call, brackets, choice, choice_else, prim_on, prim_tree, ArgsForm, args_one, args_more, args_on, args_trees, kind_word, target_token, kind_on, entry_on, entries_on, StatForm, report_on, stat_on, stats_on, stat_tree, stats_trees, SectionsForm, static, timed, ScriptForm, binding_on, area_on, timer_on, initial_on, dynamic_on, sections_on, script_on, script_tree}
+use Rattle.script_syntax.specs.Grammar.{Part, by_word, by_comma, then_token, else_token, ExprForm, expr_one, expr_more, expr_on, expr_tree, XorForm, xor_one, xor_more, xor_on, xor_tree, AndForm, and_one, and_more, and_on, and_tree, NotForm, negated, not_comp, not_on, not_tree, CompForm, comp_one, comp_two, comp_on, comp_tree, SumForm, sum_one, sum_more, sum_on, sum_tree, ProdForm, prod_one, prod_more, prod_on, prod_tree, UnaryForm, negative, unary_prim, unary_on, unary_tree, PrimForm, number, name, called, call, brackets, choice, choice_else, prim_on, prim_tree, ArgsForm, args_one, args_more, args_on, args_trees, kind_word, target_token, kind_on, entry_on, entries_on, StatForm, report_on, stat_on, stats_on, stat_tree, stats_trees, SectionsForm, static, timed, ScriptForm, binding_on, area_on, timer_on, initial_on, dynamic_on, sections_on, script_on, script_tree}
 use Rattle.script_syntax.specs.inside.Levels.{level_of, left_level}
-use Rattle.script_syntax.specs.inside.Formulas.{frame_level, frame_hole, hole, closed, close, operate, valued, alone, next_part, then_part, otherwise_part, close_bracket, is_close}
+use Rattle.script_syntax.specs.inside.Formulas.{frame_level, frame_hole, hole, closed, close, operate, valued, alone_of, next_part, then_part, otherwise_part, close_bracket, is_close}
 use Rattle.script_syntax.specs.inside.Readings.{new_reading, reading_step, finish, with_formula, with_whole, with_statement}
-use Rattle.script_syntax.specs.inside.Runs.{Went, done, stuck, onward, go}
+use Rattle.script_syntax.specs.inside.Runs.{Went, done, stuck, went_onward, go}
 
 -- where an expression stands
 record Site : Type 0 where
@@ -99,13 +99,13 @@ step_pops s f fs v (tokens.Operator o) h = ap (λ (c : Expr × List Frame). with
 step_pops s f fs v (tokens.Key keys.Then) h = ap (λ (c : Expr × List Frame). with_formula s.script s.section s.report s.name (then_part c)) (close_pops 1 v f fs h)
 step_pops s f fs v (tokens.Key keys.Else) h = ap (λ (c : Expr × List Frame). with_formula s.script s.section s.report s.name (otherwise_part c)) (close_pops 1 v f fs h)
 step_pops s f fs v (tokens.Key _) h = refl
-step_pops s f fs v (tokens.Mark marks.Semicolon) h = ap (λ (c : Expr × List Frame). with_whole s.script s.section s.report s.name (alone c)) (close_pops 1 v f fs h)
+step_pops s f fs v (tokens.Mark marks.Semicolon) h = ap (λ (c : Expr × List Frame). with_whole s.script s.section s.report s.name (alone_of c)) (close_pops 1 v f fs h)
 step_pops s f fs v (tokens.Mark marks.Comma) h = ap (λ (c : Expr × List Frame). with_formula s.script s.section s.report s.name (next_part c)) (close_pops 1 v f fs h)
 step_pops s f fs v (tokens.Mark marks.Close) h = ap (λ (c : Expr × List Frame). with_formula s.script s.section s.report s.name (close_bracket c)) (close_pops 1 v f fs h)
 step_pops s f fs v (tokens.Mark _) h = refl
 
 pops : (s : Site) (f : Frame) (fs : List Frame) (v : Expr) (t : Token) (ts : List Token) → left_at t ≤ frame_level f → go (at s (valued v (f ∷ fs))) (t ∷ ts) ≡ go (at s (valued (closed f v) fs)) (t ∷ ts)
-pops s f fs v t ts h = ap (λ (r : Option Reading). onward r (t ∷ ts) (λ n. go n ts)) (step_pops s f fs v t h)
+pops s f fs v t ts h = ap (λ (r : Option Reading). went_onward r (t ∷ ts) (λ n. go n ts)) (step_pops s f fs v t h)
 
 level_left : (o : Operator) → level_of o ≤ left_level o
 level_left operators.Or = omega arith
@@ -157,12 +157,12 @@ close_keeps o v (f ∷ fs) h = cond_false (nat_le (left_level o) (frame_level f)
 -- an operator behind a value in frames where it may stand
 chain : (s : Site) (o : Operator) (fs : List Frame) (v : Expr) (ts : List Token) → hole fs ≤ level_of o → go (at s (valued v fs)) (tokens.Operator o ∷ ts) ≡ go (at s (due_in (frames.Left v o ∷ fs))) ts
 chain s o fs v ts h =
-    ap (λ (c : Expr × List Frame). onward (with_formula s.script s.section s.report s.name (operate c o)) (tokens.Operator o ∷ ts) (λ n. go n ts)) (close_keeps o v fs h)
-    ∙ ap (λ (b : Bool). onward (with_formula s.script s.section s.report s.name (if b then None else Some (due_in (frames.Left v o ∷ fs)))) (tokens.Operator o ∷ ts) (λ n. go n ts)) (lt_test (level_of o) (hole fs) h)
+    ap (λ (c : Expr × List Frame). went_onward (with_formula s.script s.section s.report s.name (operate c o)) (tokens.Operator o ∷ ts) (λ n. go n ts)) (close_keeps o v fs h)
+    ∙ ap (λ (b : Bool). went_onward (with_formula s.script s.section s.report s.name (if b then None else Some (due_in (frames.Left v o ∷ fs)))) (tokens.Operator o ∷ ts) (λ n. go n ts)) (lt_test (level_of o) (hole fs) h)
 
 -- `not` where it may stand
 chain_not : (s : Site) (fs : List Frame) (ts : List Token) → hole fs ≤ 4 → go (at s (due_in fs)) (tokens.Not ∷ ts) ≡ go (at s (due_in (frames.Negated ∷ fs))) ts
-chain_not s fs ts h = ap (λ (b : Bool). onward (with_formula s.script s.section s.report s.name (if b then None else Some (due_in (frames.Negated ∷ fs)))) (tokens.Not ∷ ts) (λ n. go n ts)) (lt_test 4 (hole fs) h)
+chain_not s fs ts h = ap (λ (b : Bool). went_onward (with_formula s.script s.section s.report s.name (if b then None else Some (due_in (frames.Negated ∷ fs)))) (tokens.Not ∷ ts) (λ n. go n ts)) (lt_test 4 (hole fs) h)
 
 -- a name is a value where no bracket follows
 named_value : (s : Site) (w : List ℕ) (fs : List Frame) (t : Token) (ts : List Token) → left_at t ≤ 9 → go (at s (record { frames = fs; operand = operands.Name w })) (t ∷ ts) ≡ go (at s (valued (exprs.Name w) fs)) (t ∷ ts)
@@ -207,7 +207,7 @@ mutual
 
   begins_comp : (x : CompForm) (rest : List Token) → Begins (comp_on x rest)
   begins_comp (comp_one s) rest = begins_sum s rest
-  begins_comp (compared s c r) rest = begins_sum s (tokens.Operator (operators.Compare c) ∷ sum_on r rest)
+  begins_comp (comp_two s c r) rest = begins_sum s (tokens.Operator (operators.Compare c) ∷ sum_on r rest)
 
   begins_sum : (x : SumForm) (rest : List Token) → Begins (sum_on x rest)
   begins_sum (sum_one p) rest = begins_prod p rest
@@ -322,7 +322,7 @@ mutual
 
   take_comp : (s : Site) (x : CompForm) (fs : List Frame) (t : Token) (ts : List Token) → hole fs ≤ 5 → left_at t ≤ 5 → go (at s (due_in fs)) (comp_on x (t ∷ ts)) ≡ go (at s (valued (comp_tree x) fs)) (t ∷ ts)
   take_comp s (comp_one x) fs t ts h l = take_sum s x fs t ts (omega arith) (omega arith)
-  take_comp s (compared x c y) fs t ts h l =
+  take_comp s (comp_two x c y) fs t ts h l =
       take_sum s x fs (tokens.Operator (operators.Compare c)) (sum_on y (t ∷ ts)) (omega arith) (omega arith)
       ∙ (chain s (operators.Compare c) fs (sum_tree x) (sum_on y (t ∷ ts)) h
       ∙ (take_sum s y (frames.Left (sum_tree x) (operators.Compare c) ∷ fs) t ts (omega arith) (omega arith)

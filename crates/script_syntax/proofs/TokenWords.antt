@@ -21,7 +21,7 @@ use Rattle.script_syntax.specs.declared.place.Mode.TheVariants.{Bindings, BoundF
 use Rattle.script_syntax.specs.declared.place.Place.{Place}
 use Rattle.script_syntax.specs.declared.scanner.Placed.{Placed}
 use Rattle.script_syntax.specs.Places.{after_bytes}
-use Rattle.script_syntax.specs.Spelling.{is_word, key_spelled, operator_spelled, operator_or_name, key_or_other, word_token, PowerForm, NumberForm, is_sign, is_power_letter, sign_text, power_text, fraction_text, fraction_of, number_text, IsSignForm, IsPowerForm, IsPower, IsNumberForm, IsNumber, beside, one_byte_symbols, equal_symbols, two_byte_symbol, symbol_token, is_run, area_token, bound_token, run_token, SpellsPlain, SpellsFile, Spells, mode_after}
+use Rattle.script_syntax.specs.Spelling.{is_word_text, key_spelled, operator_spelled, operator_or_name, key_or_other, word_token, PowerForm, NumberForm, is_sign, is_exponent_letter, sign_text, power_text, fraction_bytes, fraction_of, number_text, IsSignForm, IsPowerForm, IsPowerPart, IsNumberForm, IsNumber, beside, one_byte_symbols, equal_symbols, two_byte_symbol, symbol_token, is_run, area_token, bound_token, run_token, SpellsPlain, SpellsFile, Spells, mode_after}
 use Rattle.script_syntax.specs.Tokens.{Ending, AreTokensFrom}
 use Rattle.script_syntax.specs.Faults.{tokens_of}
 use Rattle.script_syntax.specs.Listed.{is_long_word, is_long}
@@ -45,7 +45,7 @@ not_long false h = refl
 
 -- ---- words
 
-word_by : (k : Option Key) (n : Bool) (o : Option Operator) (w : List ℕ) → key_spelled w ≡ k → bytes_eq w (codes "not") ≡ n → operator_spelled w ≡ o → is_word w ≡ true → IsSpelled (key_or_other w k)
+word_by : (k : Option Key) (n : Bool) (o : Option Operator) (w : List ℕ) → key_spelled w ≡ k → bytes_eq w (codes "not") ≡ n → operator_spelled w ≡ o → is_word_text w ≡ true → IsSpelled (key_or_other w k)
 word_by (Some k) n o w kw nw ow h = λ l. tt
 word_by None true o w kw nw ow h = subst IsSpelled (sym (ap (λ (b : Bool). if b then tokens.Not else operator_or_name w (operator_spelled w)) nw)) (λ l. tt)
 word_by None false (Some o) w kw nw ow h =
@@ -54,12 +54,12 @@ word_by None false None w kw nw ow h =
     subst IsSpelled (sym (ap (λ (b : Bool). if b then tokens.Not else operator_or_name w (operator_spelled w)) nw ∙ ap (operator_or_name w) ow))
     (λ l. name_is w kw nw ow h l)
   where
-    name_is : (w : List ℕ) → key_spelled w ≡ None → bytes_eq w (codes "not") ≡ false → operator_spelled w ≡ None → is_word w ≡ true → is_long_word w ≡ false → is_name w ≡ true
+    name_is : (w : List ℕ) → key_spelled w ≡ None → bytes_eq w (codes "not") ≡ false → operator_spelled w ≡ None → is_word_text w ≡ true → is_long_word w ≡ false → is_name w ≡ true
     name_is w kw nw ow h l =
         let free : is_reserved w ≡ false = ap (λ (k : Option Key). is_some k || bytes_eq w (codes "not") || is_some (operator_spelled w)) kw ∙ (ap (λ (b : Bool). b || is_some (operator_spelled w)) nw ∙ ap (λ (o : Option Operator). is_some o) ow) in
-        and_is (is_word w && not (is_reserved w)) (not (is_long_word w)) (and_is (is_word w) (not (is_reserved w)) h (not_long (is_reserved w) free)) (not_long (is_long_word w) l)
+        and_is (is_word_text w && not (is_reserved w)) (not (is_long_word w)) (and_is (is_word_text w) (not (is_reserved w)) h (not_long (is_reserved w) free)) (not_long (is_long_word w) l)
 
-word_spelled : (w : List ℕ) → is_word w ≡ true → IsSpelled (word_token w)
+word_spelled : (w : List ℕ) → is_word_text w ≡ true → IsSpelled (word_token w)
 unfolding word_token
 word_spelled w h = word_by (key_spelled w) (bytes_eq w (codes "not")) (operator_spelled w) w refl refl refl h
 
@@ -79,20 +79,20 @@ sign_of (Some b) h = by_plus (b == plus) b refl h
         is_hyphen : (b : ℕ) → (b == plus) ≡ false → is_sign b ≡ true → b ≡ 45
         is_hyphen b e h = grind (arith, nat_tests)
 
-letter_of : (b : ℕ) → is_power_letter b ≡ true → (b ∷ [] ≡ codes "e") ⊎ (b ∷ [] ≡ codes "E")
+letter_of : (b : ℕ) → is_exponent_letter b ≡ true → (b ∷ [] ≡ codes "e") ⊎ (b ∷ [] ≡ codes "E")
 letter_of b h = by_small (b == small_e) b refl h
   where
-    by_small : (t : Bool) (b : ℕ) → (b == small_e) ≡ t → is_power_letter b ≡ true → (b ∷ [] ≡ codes "e") ⊎ (b ∷ [] ≡ codes "E")
+    by_small : (t : Bool) (b : ℕ) → (b == small_e) ≡ t → is_exponent_letter b ≡ true → (b ∷ [] ≡ codes "e") ⊎ (b ∷ [] ≡ codes "E")
     by_small true b e h = inl (ap (λ (c : ℕ). c ∷ []) (small b e))
       where
         small : (b : ℕ) → (b == small_e) ≡ true → b ≡ 101
         small b e = grind (arith, nat_tests)
     by_small false b e h = inr (ap (λ (c : ℕ). c ∷ []) (capital b e h))
       where
-        capital : (b : ℕ) → (b == small_e) ≡ false → is_power_letter b ≡ true → b ≡ 69
+        capital : (b : ℕ) → (b == small_e) ≡ false → is_exponent_letter b ≡ true → b ≡ 69
         capital b e h = grind (arith, nat_tests)
 
-decimal_by : (whole : List ℕ) (fraction : Option (List ℕ)) (power : Option PowerForm) (w : List ℕ) → list_all is_ascii_digit whole ≡ true → list_all is_ascii_digit (fraction_of fraction) ≡ true → 0 < length whole + length (fraction_of fraction) → length w ≤ 128 → (p : List ℕ) (e : ℤ) → power_text power ≡ p → decimals.IsExponent p e → (whole ++ fraction_text fraction) ++ power_text power ≡ w → decimals.IsDecimalText w
+decimal_by : (whole : List ℕ) (fraction : Option (List ℕ)) (power : Option PowerForm) (w : List ℕ) → list_all is_ascii_digit whole ≡ true → list_all is_ascii_digit (fraction_of fraction) ≡ true → 0 < length whole + length (fraction_of fraction) → length w ≤ 128 → (p : List ℕ) (e : ℤ) → power_text power ≡ p → decimals.IsExponent p e → (whole ++ fraction_bytes fraction) ++ power_text power ≡ w → decimals.IsDecimalText w
 decimal_by whole None power w d f some short p e is raised text = (
   record { negative = false; whole = whole; fraction = []; exponent = e },
   record {
@@ -126,7 +126,7 @@ decimal_by whole (Some ds) power w d f some short p e is raised text = (
   },
 )
 
-exponent_by : (power : Option PowerForm) (f : NumberForm) (w : List ℕ) → IsPower power → f.power ≡ power → IsNumberForm f → length w ≤ 128 → number_text f ≡ w → decimals.IsDecimalText w
+exponent_by : (power : Option PowerForm) (f : NumberForm) (w : List ℕ) → IsPowerPart power → f.power ≡ power → IsNumberForm f → length w ≤ 128 → number_text f ≡ w → decimals.IsDecimalText w
 exponent_by None f w h same n short text = decimal_by f.whole f.fraction f.power w n.whole n.fraction n.some short [] (pos 0) (ap power_text same) (inr (refl, refl)) text
 exponent_by (Some g) f w h same n short text =
     let s = sign_of g.sign h.signed in

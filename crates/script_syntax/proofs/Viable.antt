@@ -6,7 +6,7 @@ use Rattle.script_syntax.specs.declared.tree.Script.{Script}
 use Rattle.script_syntax.specs.declared.reading.Reading.{Reading}
 use Rattle.script_syntax.specs.Grammar.{ScriptForm, script_on, script_tree, Derives, IsViable}
 use Rattle.script_syntax.specs.inside.Readings.{new_reading, reading_step, finish}
-use Rattle.script_syntax.specs.inside.Runs.{Went, done, stuck, onward, go}
+use Rattle.script_syntax.specs.inside.Runs.{Went, done, stuck, went_onward, go}
 use Rattle.script_syntax.proofs.ScriptPasts.{Past, at_start, past_on, reading_of, IsGood, Advances, advances, Finishes, finishes}
 use Rattle.script_syntax.proofs.Completing.{IsCompletable, completable}
 use Rattle.script_syntax.proofs.Taking.{take_script, finish_script}
@@ -22,7 +22,7 @@ leads : (ts : List Token) (p : Past) (r : Reading) → IsGood p → go (reading_
 leads [] p r good e = record { past = p; good = good; is = cc; on = λ rest. refl }
 leads (t ∷ ts) p r good e = by_step (reading_step (reading_of p) t) t ts p r good refl e (λ q h g. leads ts q r h g)
   where
-    by_step : (o : Option Reading) (t : Token) (ts : List Token) (p : Past) (r : Reading) → IsGood p → reading_step (reading_of p) t ≡ o → onward o (t ∷ ts) (λ n. go n ts) ≡ done r → ((q : Past) → IsGood q → go (reading_of q) ts ≡ done r → Leads q ts r) → Leads p (t ∷ ts) r
+    by_step : (o : Option Reading) (t : Token) (ts : List Token) (p : Past) (r : Reading) → IsGood p → reading_step (reading_of p) t ≡ o → went_onward o (t ∷ ts) (λ n. go n ts) ≡ done r → ((q : Past) → IsGood q → go (reading_of q) ts ≡ done r → Leads q ts r) → Leads p (t ∷ ts) r
     by_step None t ts p r good is e next = absurd cc
     by_step (Some n) t ts p r good is e next =
         let a = advances p t n good is in
@@ -60,7 +60,7 @@ pub go-append : (xs ys : List Token) (r n : Reading) → go r xs ≡ done n → 
 go-append [] ys r n e = ap (λ (m : Reading). go m ys) cc
 go-append (x ∷ xs) ys r n e = by_step (reading_step r x) x xs ys n e (λ m h. go-append xs ys m n h)
   where
-    by_step : (o : Option Reading) (x : Token) (xs ys : List Token) (n : Reading) → onward o (x ∷ xs) (λ m. go m xs) ≡ done n → ((m : Reading) → go m xs ≡ done n → go m (xs ++ ys) ≡ go n ys) → onward o (x ∷ (xs ++ ys)) (λ m. go m (xs ++ ys)) ≡ go n ys
+    by_step : (o : Option Reading) (x : Token) (xs ys : List Token) (n : Reading) → went_onward o (x ∷ xs) (λ m. go m xs) ≡ done n → ((m : Reading) → go m xs ≡ done n → go m (xs ++ ys) ≡ go n ys) → went_onward o (x ∷ (xs ++ ys)) (λ m. go m (xs ++ ys)) ≡ go n ys
     by_step None x xs ys n e next = absurd cc
     by_step (Some m) x xs ys n e next = next m e
 
@@ -68,7 +68,7 @@ go-stuck : (xs ys zs : List Token) (r : Reading) → go r xs ≡ stuck zs → go
 go-stuck [] ys zs r e = absurd cc
 go-stuck (x ∷ xs) ys zs r e = by_step (reading_step r x) x xs ys zs e (λ m h. go-stuck xs ys zs m h)
   where
-    by_step : (o : Option Reading) (x : Token) (xs ys zs : List Token) → onward o (x ∷ xs) (λ m. go m xs) ≡ stuck zs → ((m : Reading) → go m xs ≡ stuck zs → go m (xs ++ ys) ≡ stuck (zs ++ ys)) → onward o (x ∷ (xs ++ ys)) (λ m. go m (xs ++ ys)) ≡ stuck (zs ++ ys)
+    by_step : (o : Option Reading) (x : Token) (xs ys zs : List Token) → went_onward o (x ∷ xs) (λ m. go m xs) ≡ stuck zs → ((m : Reading) → go m xs ≡ stuck zs → go m (xs ++ ys) ≡ stuck (zs ++ ys)) → went_onward o (x ∷ (xs ++ ys)) (λ m. go m (xs ++ ys)) ≡ stuck (zs ++ ys)
     by_step None x xs ys zs e next = let same : x ∷ xs ≡ zs = cc in ap (λ (us : List Token). stuck (us ++ ys)) same
     by_step (Some m) x xs ys zs e next = next m e
 

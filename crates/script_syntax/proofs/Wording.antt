@@ -34,12 +34,12 @@ use Rattle.script_syntax.specs.declared.frames.Frame.TheVariants as frames
 use Rattle.script_syntax.specs.declared.formula.Operand.{Operand}
 use Rattle.script_syntax.specs.declared.formula.Operand.TheVariants as operands
 use Rattle.script_syntax.specs.declared.formula.Formula.{Formula}
-use Rattle.script_syntax.specs.Grammar.{operator_word, joined, call_one, call_two, call_three}
+use Rattle.script_syntax.specs.Grammar.{operator_word, call_joined, call_one, call_two, call_three}
 use Rattle.script_syntax.specs.Listed.{is_counted, is_large}
 use Rattle.script_syntax.specs.WellMade.{is_name, is_number, is_call_word, words_level, has_words, calls_level, calls_in}
 use Rattle.script_syntax.specs.inside.Counting.{counted_after}
 use Rattle.script_syntax.specs.inside.Levels.{level_of, left_level}
-use Rattle.script_syntax.specs.inside.Formulas.{frame_level, hole, closed, close, formula_step, after_value, after_due, after_name, after_called, after_if, operate, opened, valued, close_in, close_bracket, next_in, next_part, then_in, then_part, otherwise_in, otherwise_part, is_open, is_close, whole, whole_operand, alone, alone_in}
+use Rattle.script_syntax.specs.inside.Formulas.{frame_level, hole, closed, close, formula_step, after_value, after_due, after_name, after_called, after_if, operate, opened, valued, close_in, close_bracket, next_in, next_part, then_in, then_part, otherwise_in, otherwise_part, is_open, is_close, whole, whole_operand, alone_of, alone_in}
 use Rattle.script_syntax.proofs.RunLaws.{both, and_is}
 use Rattle.script_syntax.proofs.TokenWords.{IsGoodToken}
 

@@ -10,28 +10,28 @@ use Rattle.script_syntax.specs.declared.scanner.Placed.{Placed}
 use Rattle.script_syntax.specs.Grammar.{Derives, IsViable}
 use Rattle.script_syntax.specs.Listed.{listed, IsClean}
 use Rattle.script_syntax.specs.Places.{first_place}
-use Rattle.script_syntax.specs.Tokens.{Ending, Whole, Byte, Scanned, AreTokens}
+use Rattle.script_syntax.specs.Tokens.{Ending, Whole, Byte, Scanned, AreScriptTokens}
 
 -- tokens without their places
 abbrev pub tokens_of : List Placed → List Token
 tokens_of placed = map (λ t. t.token) placed
 
 -- the place behind a token
-abbrev pub place_behind : Placed → Place
-place_behind t = record { line = t.place.line; column = t.place.column + t.len }
+abbrev pub place_after_token : Placed → Place
+place_after_token t = record { line = t.place.line; column = t.place.column + t.len }
 
 -- the place behind the last of these tokens, or the given one where there are none
 abbrev pub end_from : Place → List Placed → Place
 end_from p [] = p
-end_from p (t ∷ ts) = end_from (place_behind t) ts
+end_from p (t ∷ ts) = end_from (place_after_token t) ts
 
 -- the place behind the last token, or the text's first place where there is none
 abbrev pub end_place : List Placed → Place
 end_place ts = end_from first_place ts
 
 -- the place of a fault
-abbrev pub place_of : SyntaxFault → Place
-place_of f = record { line = f.line; column = f.column }
+abbrev pub fault_place : SyntaxFault → Place
+fault_place f = record { line = f.line; column = f.column }
 
 -- behind the front stands a token, at this place, that has a fault of its own: its length, its number or its count
 pub record HasListed (front back : List Placed) (kind : SyntaxKind) (place : Place) : Type 0 where
@@ -68,18 +68,18 @@ IsFault front back ending kinds.Large place = HasListed front back kinds.Large p
 IsFault front back ending kinds.Number place = HasListed front back kinds.Number place
 
 -- The first fault of tokens: those before it begin a script, and none of them has a fault of its own.
-pub record IsFirstFault (s : Scanned) (f : SyntaxFault) : Type 0 where
+pub record IsFirstSyntaxFault (s : Scanned) (f : SyntaxFault) : Type 0 where
   pub front : List Placed
   pub back : List Placed
   pub parts : s.tokens ≡ front ++ back
   pub before : IsViable (tokens_of front)
   pub clean : IsClean (tokens_of front)
-  pub here : IsFault front back s.ending f.kind (place_of f)
+  pub here : IsFault front back s.ending f.kind (fault_place f)
 
 -- the text is a script, and this is its tree
 pub record IsScript (text : List ℕ) (tree : Script) : Type 0 where
   pub scanned : Scanned
-  pub tokens : AreTokens text scanned
+  pub tokens : AreScriptTokens text scanned
   pub whole : scanned.ending ≡ Whole
   pub derives : Derives (tokens_of scanned.tokens) tree
   pub clean : IsClean (tokens_of scanned.tokens)
@@ -87,8 +87,8 @@ pub record IsScript (text : List ℕ) (tree : Script) : Type 0 where
 -- the text is no script, and this is its first fault
 pub record IsFaulty (text : List ℕ) (fault : SyntaxFault) : Type 0 where
   pub scanned : Scanned
-  pub tokens : AreTokens text scanned
-  pub first : IsFirstFault scanned fault
+  pub tokens : AreScriptTokens text scanned
+  pub first : IsFirstSyntaxFault scanned fault
 
 -- what a text gives: its tree, or its first fault
 abbrev pub IsExact : List ℕ → Result Script SyntaxFault → Type 0

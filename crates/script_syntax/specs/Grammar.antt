@@ -57,7 +57,7 @@ mutual
   -- comp = sum [ cmp sum ]
   pub data CompForm : Type 0 where
     comp_one : SumForm → CompForm
-    compared : SumForm → Comparison → SumForm → CompForm
+    comp_two : SumForm → Comparison → SumForm → CompForm
 
   -- sum = prod | sum ("+" | "-") prod
   pub data SumForm : Type 0 where
@@ -122,7 +122,7 @@ abbrev mutual
 
   pub comp_on : CompForm → List Token → List Token
   comp_on (comp_one s) rest = sum_on s rest
-  comp_on (compared s c r) rest = sum_on s (tokens.Operator (operators.Compare c) ∷ sum_on r rest)
+  comp_on (comp_two s c r) rest = sum_on s (tokens.Operator (operators.Compare c) ∷ sum_on r rest)
 
   pub sum_on : SumForm → List Token → List Token
   sum_on (sum_one p) rest = prod_on p rest
@@ -145,7 +145,8 @@ abbrev mutual
   prim_on (choice c p a) rest =
       tokens.Key keys.If ∷ tokens.Mark marks.Open ∷ expr_on c (then_token p ∷ expr_on a (tokens.Mark marks.Close ∷ rest))
   prim_on (choice_else c p a q b) rest =
-      tokens.Key keys.If ∷ tokens.Mark marks.Open ∷ expr_on c (then_token p ∷ expr_on a (else_token q ∷ expr_on b (tokens.Mark marks.Close ∷ rest)))
+      tokens.Key keys.If ∷ tokens.Mark marks.Open
+      ∷ expr_on c (then_token p ∷ expr_on a (else_token q ∷ expr_on b (tokens.Mark marks.Close ∷ rest)))
 
   pub args_on : ArgsForm → List Token → List Token
   args_on (args_one e) rest = expr_on e rest
@@ -184,22 +185,22 @@ abbrev pub call_three : List ℕ → Expr → Expr → Expr → Expr
 call_three word a b c = exprs.Call word (a ∷ b ∷ c ∷ [])
 
 -- two operands and their operator
-abbrev pub joined : Operator → Expr → Expr → Expr
-joined o a b = call_two (operator_word o) a b
+abbrev pub call_joined : Operator → Expr → Expr → Expr
+call_joined o a b = call_two (operator_word o) a b
 
 -- the tree of each rule's forms
 abbrev mutual
   pub expr_tree : ExprForm → Expr
   expr_tree (expr_one x) = xor_tree x
-  expr_tree (expr_more e x) = joined operators.Or (expr_tree e) (xor_tree x)
+  expr_tree (expr_more e x) = call_joined operators.Or (expr_tree e) (xor_tree x)
 
   pub xor_tree : XorForm → Expr
   xor_tree (xor_one a) = and_tree a
-  xor_tree (xor_more x a) = joined operators.Xor (xor_tree x) (and_tree a)
+  xor_tree (xor_more x a) = call_joined operators.Xor (xor_tree x) (and_tree a)
 
   pub and_tree : AndForm → Expr
   and_tree (and_one n) = not_tree n
-  and_tree (and_more a n) = joined operators.And (and_tree a) (not_tree n)
+  and_tree (and_more a n) = call_joined operators.And (and_tree a) (not_tree n)
 
   pub not_tree : NotForm → Expr
   not_tree (negated n) = call_one (codes "not") (not_tree n)
@@ -207,15 +208,15 @@ abbrev mutual
 
   pub comp_tree : CompForm → Expr
   comp_tree (comp_one s) = sum_tree s
-  comp_tree (compared s c r) = joined (operators.Compare c) (sum_tree s) (sum_tree r)
+  comp_tree (comp_two s c r) = call_joined (operators.Compare c) (sum_tree s) (sum_tree r)
 
   pub sum_tree : SumForm → Expr
   sum_tree (sum_one p) = prod_tree p
-  sum_tree (sum_more s g p) = joined (operators.Sum g) (sum_tree s) (prod_tree p)
+  sum_tree (sum_more s g p) = call_joined (operators.Sum g) (sum_tree s) (prod_tree p)
 
   pub prod_tree : ProdForm → Expr
   prod_tree (prod_one u) = unary_tree u
-  prod_tree (prod_more p f u) = joined (operators.Product f) (prod_tree p) (unary_tree u)
+  prod_tree (prod_more p f u) = call_joined (operators.Product f) (prod_tree p) (unary_tree u)
 
   pub unary_tree : UnaryForm → Expr
   unary_tree (negative u) = call_one (codes "-") (unary_tree u)
@@ -319,7 +320,8 @@ area_on w rest = tokens.Key keys.Areamap ∷ tokens.File w ∷ tokens.Mark marks
 
 -- "timer" number number number ";"
 abbrev pub timer_on : List ℕ → List ℕ → List ℕ → List Token → List Token
-timer_on from to by rest = tokens.Key keys.Timer ∷ tokens.Number from ∷ tokens.Number to ∷ tokens.Number by ∷ tokens.Mark marks.Semicolon ∷ rest
+timer_on from to by rest =
+    tokens.Key keys.Timer ∷ tokens.Number from ∷ tokens.Number to ∷ tokens.Number by ∷ tokens.Mark marks.Semicolon ∷ rest
 
 -- [ "initial" { stat } ]
 abbrev pub initial_on : Option (List StatForm) → List Token → List Token

@@ -1,5 +1,6 @@
 -- The faults that a token has by its length, its number and its count, whatever the grammar says of it.
-use Rattle.std.specs.Prelude.{◌≡◌, ℕ, ◌+◌, ◌<◌, Bool, true, false, not, ◌||◌, ◌&&◌, ◌==◌, nat_lt, nat_le, if◌then◌else◌, List, [], ◌∷◌, ◌++◌, length, codes, count_by, Option, Some, None, unwrap_or, is_some}
+use Rattle.std.specs.Prelude.{◌≡◌, ℕ, ◌+◌, ◌<◌, Bool, true, false, not, ◌||◌, ◌&&◌, ◌==◌, nat_lt, nat_le, if◌then◌else◌}
+use Rattle.std.specs.Prelude.{List, [], ◌∷◌, ◌++◌, length, codes, count_by, Option, Some, None, unwrap_or, is_some}
 use Rattle.std.specs.Option.{option_map}
 use Rattle.std.specs.Str.{bytes_eq}
 use Rattle.text_base.specs.Limits.{longest_word}
@@ -14,6 +15,7 @@ use Rattle.script_syntax.specs.declared.counts.Counts.{Counts}
 
 -- ---- lists of tokens
 
+-- the first of two lists that is there
 abbrev pub or_earlier : Option (List Token) → Option (List Token) → Option (List Token)
 or_earlier None o = o
 or_earlier (Some ts) o = Some ts
@@ -36,14 +38,17 @@ ends_in p (t ∷ u ∷ ts) = ends_in p (u ∷ ts)
 
 -- ---- sorts of tokens
 
+-- the mark `;`
 abbrev pub is_semicolon : Token → Bool
 is_semicolon (tokens.Mark marks.Semicolon) = true
 is_semicolon _ = false
 
+-- the word `areamap`
 abbrev pub is_areamap : Token → Bool
 is_areamap (tokens.Key keys.Areamap) = true
 is_areamap _ = false
 
+-- the word `timer`
 abbrev pub is_timer : Token → Bool
 is_timer (tokens.Key keys.Timer) = true
 is_timer _ = false
@@ -85,8 +90,8 @@ abbrev pub token_count : List Token → ℕ
 token_count front = count_by is_counted (last_statement front)
 
 -- what is counted before a token
-abbrev pub counts_of : List Token → Counts
-counts_of front = record {
+abbrev pub counts_behind : List Token → Counts
+counts_behind front = record {
   covered = is_some (behind_first is_areamap front);
   semicolons = count_by is_semicolon front;
   ended = ends_in is_semicolon front;
@@ -99,16 +104,16 @@ counts_of front = record {
 -- ---- the faults
 
 -- the most entries, and the most statements of both sections together
-abbrev pub most_statements : ℕ
-most_statements = 1000
+abbrev pub most_script_statements : ℕ
+most_script_statements = 1000
 
 -- the most opening brackets, commas and operators of a statement
 abbrev pub most_counted : ℕ
 most_counted = 256
 
 -- the last step that a timer may have at most
-abbrev pub most_steps : ℕ
-most_steps = 100000
+abbrev pub most_timer_steps : ℕ
+most_timer_steps = 100000
 
 -- more than 64 bytes
 abbrev pub is_long_word : List ℕ → Bool
@@ -121,34 +126,40 @@ is_long (tokens.Number w) = is_long_word w
 is_long (tokens.File w) = is_long_word w
 is_long _ = false
 
+-- a number from 1 to 100,000
 abbrev pub is_step_number : Option ℕ → Bool
 is_step_number None = false
-is_step_number (Some n) = nat_le 1 n && nat_le n most_steps
+is_step_number (Some n) = nat_le 1 n && nat_le n most_timer_steps
 
 -- 1 to 6 digits that write 1 to 100,000
 abbrev pub is_last_step : List ℕ → Bool
 is_last_step w = is_step_number (whole_number_of 6 w)
 
 -- the digit 1 alone
-abbrev pub is_one : List ℕ → Bool
-is_one w = bytes_eq w (codes "1")
+abbrev pub is_one_alone : List ℕ → Bool
+is_one_alone w = bytes_eq w (codes "1")
 
 -- a number, where so many tokens stand between it and `timer`, that may not stand there
 abbrev pub is_no_timer : ℕ → List ℕ → Bool
-is_no_timer n w = if n == 0 then not (is_one w) else (if n == 1 then not (is_last_step w) else (if n == 2 then not (is_one w) else false))
+is_no_timer n w =
+    if n == 0 then not (is_one_alone w)
+    else (if n == 1 then not (is_last_step w)
+    else (if n == 2 then not (is_one_alone w) else false))
 
+-- a number that may not stand so many tokens behind `timer`
 abbrev pub is_bad_timer : Option ℕ → Token → Bool
 is_bad_timer (Some n) (tokens.Number w) = is_no_timer n w
 is_bad_timer _ _ = false
 
 -- a name behind 1,000 entries, which begins one more
 abbrev pub is_entry_too_many : Counts → Token → Bool
-is_entry_too_many c (tokens.Name w) = not c.covered && c.ended && (c.semicolons == most_statements)
+is_entry_too_many c (tokens.Name w) = not c.covered && c.ended && (c.semicolons == most_script_statements)
 is_entry_too_many c _ = false
 
+-- a count of 1,000
 abbrev pub is_most : Option ℕ → Bool
 is_most None = false
-is_most (Some n) = n == most_statements
+is_most (Some n) = n == most_script_statements
 
 -- a name or `report`
 abbrev pub is_statement_start : Token → Bool
@@ -174,7 +185,7 @@ listed_by c t =
 
 -- the first of these faults that a token has behind those tokens
 abbrev pub listed : List Token → Token → Option SyntaxKind
-listed front t = listed_by (counts_of front) t
+listed front t = listed_by (counts_behind front) t
 
 -- no token has one of these faults
 abbrev pub IsClean : List Token → Type 0

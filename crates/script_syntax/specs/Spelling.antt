@@ -1,5 +1,6 @@
 -- How tokens are spelled: which bytes are which token, in each sort of place.
-use Rattle.std.specs.Prelude.{◌≡◌, ◌⊎◌, ◌+◌, ◌<◌, ◌≤◌, ℕ, Bool, true, false, ◌||◌, ◌&&◌, ◌==◌, if◌then◌else◌, List, [], ◌∷◌, ◌++◌, length, codes, is_some, Option, Some, None, IsTrue}
+use Rattle.std.specs.Prelude.{◌≡◌, ◌⊎◌, ◌+◌, ◌<◌, ◌≤◌, ℕ, Bool, true, false, ◌||◌, ◌&&◌, ◌==◌, if◌then◌else◌}
+use Rattle.std.specs.Prelude.{List, [], ◌∷◌, ◌++◌, length, codes, is_some, Option, Some, None, IsTrue}
 use Rattle.std.specs.Char.{is_ascii_digit}
 use Rattle.std.specs.List.{list_all}
 use Rattle.std.specs.Str.{bytes_eq}
@@ -23,9 +24,9 @@ use Rattle.script_syntax.specs.declared.place.Mode.TheVariants.{Bindings, BoundF
 -- ---- words
 
 -- a letter, then letters, digits and `_`
-abbrev pub is_word : List ℕ → Bool
-is_word [] = false
-is_word (b ∷ bs) = is_letter b && list_all is_word_byte bs
+abbrev pub is_word_text : List ℕ → Bool
+is_word_text [] = false
+is_word_text (b ∷ bs) = is_letter b && list_all is_word_byte bs
 
 -- the words of the language that are operators
 abbrev pub operator_spelled : List ℕ → Option Operator
@@ -56,10 +57,12 @@ key_spelled w =
     else (if bytes_eq w (codes "then") then Some keys.Then
     else (if bytes_eq w (codes "else") then Some keys.Else else None))))))))
 
+-- an operator, where the word spells one, and else a name
 abbrev pub operator_or_name : List ℕ → Option Operator → Token
 operator_or_name w None = tokens.Name w
 operator_or_name w (Some o) = tokens.Operator o
 
+-- a key word, where the word is one, and else `not`, an operator or a name
 abbrev pub key_or_other : List ℕ → Option Key → Token
 key_or_other w None = if bytes_eq w (codes "not") then tokens.Not else operator_or_name w (operator_spelled w)
 key_or_other w (Some k) = tokens.Key k
@@ -87,36 +90,41 @@ abbrev pub is_sign : ℕ → Bool
 is_sign b = (b == plus) || (b == hyphen)
 
 -- `e` or `E`
-abbrev pub is_power_letter : ℕ → Bool
-is_power_letter b = (b == small_e) || (b == capital_e)
+abbrev pub is_exponent_letter : ℕ → Bool
+is_exponent_letter b = (b == small_e) || (b == capital_e)
 
+-- the bytes of a sign
 abbrev pub sign_text : Option ℕ → List ℕ
 sign_text None = []
 sign_text (Some b) = b ∷ []
 
+-- a sign is `+` or `-`
 abbrev pub IsSignForm : Option ℕ → Type 0
 IsSignForm None = Unit {0}
 IsSignForm (Some b) = is_sign b ≡ true
 
 -- one to six digits behind the letter and a sign
 pub record IsPowerForm (f : PowerForm) : Type 0 where
-  pub lettered : is_power_letter f.letter ≡ true
+  pub lettered : is_exponent_letter f.letter ≡ true
   pub signed : IsSignForm f.sign
   pub digits : list_all is_ascii_digit f.digits ≡ true
   pub some : 0 < length f.digits
   pub few : length f.digits ≤ 6
 
+-- the bytes of a power
 abbrev pub power_text : Option PowerForm → List ℕ
 power_text None = []
 power_text (Some f) = f.letter ∷ sign_text f.sign ++ f.digits
 
-abbrev pub IsPower : Option PowerForm → Type 0
-IsPower None = Unit {0}
-IsPower (Some f) = IsPowerForm f
+-- a power has the form of one
+abbrev pub IsPowerPart : Option PowerForm → Type 0
+IsPowerPart None = Unit {0}
+IsPowerPart (Some f) = IsPowerForm f
 
-abbrev pub fraction_text : Option (List ℕ) → List ℕ
-fraction_text None = []
-fraction_text (Some ds) = point ∷ ds
+-- the point and the digits behind it
+abbrev pub fraction_bytes : Option (List ℕ) → List ℕ
+fraction_bytes None = []
+fraction_bytes (Some ds) = point ∷ ds
 
 -- the digits behind the point
 abbrev pub fraction_of : Option (List ℕ) → List ℕ
@@ -125,14 +133,14 @@ fraction_of (Some ds) = ds
 
 -- the bytes of a number
 abbrev pub number_text : NumberForm → List ℕ
-number_text f = f.whole ++ fraction_text f.fraction ++ power_text f.power
+number_text f = f.whole ++ fraction_bytes f.fraction ++ power_text f.power
 
 -- digits stand on one side of the point at least
 pub record IsNumberForm (f : NumberForm) : Type 0 where
   pub whole : list_all is_ascii_digit f.whole ≡ true
   pub fraction : list_all is_ascii_digit (fraction_of f.fraction) ≡ true
   pub some : 0 < length f.whole + length (fraction_of f.fraction)
-  pub power : IsPower f.power
+  pub power : IsPowerPart f.power
 
 -- the bytes are a number
 pub record IsNumber (w : List ℕ) : Type 0 where
@@ -210,7 +218,7 @@ run_token Sections w = area_token w
 
 -- the bytes are this token outside of file places
 abbrev pub SpellsPlain : List ℕ → Token → Type 0
-SpellsPlain w t = ((is_word w ≡ true) × (t ≡ word_token w)) ⊎ (IsNumber w × (t ≡ tokens.Number w)) ⊎ (symbol_token w ≡ Some t)
+SpellsPlain w t = ((is_word_text w ≡ true) × (t ≡ word_token w)) ⊎ (IsNumber w × (t ≡ tokens.Number w)) ⊎ (symbol_token w ≡ Some t)
 
 -- the bytes are this token in a file place
 abbrev pub SpellsFile : Mode → List ℕ → Token → Type 0

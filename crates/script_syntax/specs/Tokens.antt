@@ -102,5 +102,5 @@ AreTokensFrom mode at text (t ∷ ts) e =
     (n : IsNext mode at text t) × AreTokensFrom (mode_after mode t.token) (after_bytes t.place n.bytes) n.rest ts e
 
 -- these are the tokens of a script text, and how it ends
-abbrev pub AreTokens : List ℕ → Scanned → Type 0
-AreTokens text s = AreTokensFrom Bindings first_place text s.tokens s.ending
+abbrev pub AreScriptTokens : List ℕ → Scanned → Type 0
+AreScriptTokens text s = AreTokensFrom Bindings first_place text s.tokens s.ending

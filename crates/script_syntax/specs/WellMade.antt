@@ -12,8 +12,8 @@ use Rattle.script_syntax.specs.declared.tree.Script.{Script}
 use Rattle.script_syntax.specs.declared.tree.Statement.{Statement}
 use Rattle.script_syntax.specs.declared.tree.Target.{Target}
 use Rattle.script_syntax.specs.declared.tree.Target.TheVariants.{File, Number}
-use Rattle.script_syntax.specs.Listed.{most_statements, most_counted, most_steps, is_long_word}
-use Rattle.script_syntax.specs.Spelling.{is_word, key_spelled, operator_spelled}
+use Rattle.script_syntax.specs.Listed.{most_script_statements, most_counted, most_timer_steps, is_long_word}
+use Rattle.script_syntax.specs.Spelling.{is_word_text, key_spelled, operator_spelled}
 
 -- a word of the language
 abbrev pub is_reserved : List ℕ → Bool
@@ -21,7 +21,7 @@ is_reserved w = is_some (key_spelled w) || bytes_eq w (codes "not") || is_some (
 
 -- a name: a word that is no word of the language, of at most 64 bytes
 abbrev pub is_name : List ℕ → Bool
-is_name w = is_word w && not (is_reserved w) && not (is_long_word w)
+is_name w = is_word_text w && not (is_reserved w) && not (is_long_word w)
 
 -- a decimal of at most 64 bytes
 abbrev pub is_number : List ℕ → Bool
@@ -63,18 +63,20 @@ abbrev pub is_target : Target → Bool
 is_target (File w) = is_file_word w
 is_target (Number w) = is_number w
 
+-- an entry has a name, and a file word or a number
 abbrev pub is_well_made_binding : Binding → Bool
 is_well_made_binding b = is_name b.name && is_target b.target
 
+-- a statement has a name, words at their places, and no more calls than tokens count
 abbrev pub is_well_made_statement : Statement → Bool
 is_well_made_statement s = is_name s.name && has_words s.expr && nat_le (calls_in s.expr) most_counted
 
 -- A script keeps the limits, and its words are such as may stand at their places. Without a last step it has no section
 -- `dynamic`.
 pub record IsWellMade (s : Script) : Type 0 where
-  pub entries : length s.bindings ≤ most_statements
-  pub statements : length s.initial + length s.dynamic ≤ most_statements
-  pub steps : s.steps ≤ most_steps
+  pub entries : length s.bindings ≤ most_script_statements
+  pub statements : length s.initial + length s.dynamic ≤ most_script_statements
+  pub steps : s.steps ≤ most_timer_steps
   pub still : s.steps ≡ 0 → s.dynamic ≡ []
   pub area : is_file_word s.area ≡ true
   pub bindings : list_all is_well_made_binding s.bindings ≡ true

@@ -1,5 +1,5 @@
 ghost use Rattle.std.specs.Prelude.{◌≡◌, ◌<◌, ◌+◌, ◌^◌, [], None};
-ghost use Rattle.script_syntax.specs.Listed.{counts_of, is_bad_timer, is_entry_too_many, is_statement_too_many, is_before_statement, is_counted, is_last_step, is_long, is_no_timer, is_section, is_semicolon, listed_by};
+ghost use Rattle.script_syntax.specs.Listed.{counts_behind, is_bad_timer, is_entry_too_many, is_statement_too_many, is_before_statement, is_counted, is_last_step, is_long, is_no_timer, is_section, is_semicolon, listed_by};
 ghost use Rattle.script_syntax.specs.inside.Counting.{AreBelow, counted_after, statements_after, timer_after, counts_after};
 
 use crate::fault::SyntaxKind;
@@ -102,7 +102,7 @@ fn is_no_timer(count: u32, word: &[u8]) -> bool
 impl Counts {
     /// What is counted where no token stands before.
     pub fn new() -> Counts
-        ensures { result ≡ counts_of [] }
+        ensures { result ≡ counts_behind [] }
     {
         Counts {
             covered: false,

@@ -1,8 +1,8 @@
 ghost use Rattle.std.specs.Prelude.{◌≡◌, ◌<◌, ◌∷◌, [], IfOk, IfErr, MatchResult, Some};
 ghost use Rattle.script_syntax.specs.declared.formula.Refused.TheVariants as refused;
-ghost use Rattle.script_syntax.specs.Grammar.{call_one, call_three, call_two, joined};
+ghost use Rattle.script_syntax.specs.Grammar.{call_one, call_three, call_two, call_joined};
 ghost use Rattle.script_syntax.specs.inside.Formulas.{after_called, after_due, after_if, after_value, close, close_bracket, closed, formula_step, next_part, operate, otherwise_part, then_part, whole};
-ghost use Rattle.script_syntax.specs.inside.Outcomes.{Gives};
+ghost use Rattle.script_syntax.specs.inside.Outcomes.{GivesOutcome};
 
 use crate::frames::{Frame, Frames};
 use crate::token::{Key, Mark, Operator, Sign, Token};
@@ -58,7 +58,7 @@ pub struct Formula {
 
 // The formula in which this frame was opened.
 fn open(mut frames: Frames, frame: Frame) -> Result<Formula, Refused>
-    ensures { Gives result (Some (record { frames = frame ∷ frames; operand = Operand.Due })) }
+    ensures { GivesOutcome result (Some (record { frames = frame ∷ frames; operand = Operand.Due })) }
 {
     frames.push(frame)?;
     Ok(Formula {
@@ -138,7 +138,7 @@ fn close(alloc: Global, level: u8, mut value: Expr, frames: &mut Frames) -> Resu
 
 // The value, and an operator behind it.
 fn operate(frames: Frames, value: Expr, operator: Operator) -> Result<Formula, Refused>
-    ensures { Gives result (operate (value, frames) operator) }
+    ensures { GivesOutcome result (operate (value, frames) operator) }
 {
     if operator.level() < frames.hole() {
         return Err(Refused::Token);
@@ -149,7 +149,7 @@ fn operate(frames: Frames, value: Expr, operator: Operator) -> Result<Formula, R
 
 // The value, and a closing bracket behind it.
 fn close_bracket(alloc: Global, mut frames: Frames, value: Expr) -> Result<Formula, Refused>
-    ensures { Gives result (close_bracket (value, frames)) }
+    ensures { GivesOutcome result (close_bracket (value, frames)) }
 {
     let tree = match frames.pop() {
         Some(Frame::Brackets) => value,
@@ -174,7 +174,7 @@ fn close_bracket(alloc: Global, mut frames: Frames, value: Expr) -> Result<Formu
 
 // The value, and a comma behind it.
 fn next_part(mut frames: Frames, value: Expr) -> Result<Formula, Refused>
-    ensures { Gives result (next_part (value, frames)) }
+    ensures { GivesOutcome result (next_part (value, frames)) }
 {
     match frames.pop() {
         Some(Frame::Call { word, mut args }) => {
@@ -201,7 +201,7 @@ fn next_part(mut frames: Frames, value: Expr) -> Result<Formula, Refused>
 
 // The value, and `then` behind it.
 fn then_part(mut frames: Frames, value: Expr) -> Result<Formula, Refused>
-    ensures { Gives result (then_part (value, frames)) }
+    ensures { GivesOutcome result (then_part (value, frames)) }
 {
     match frames.pop() {
         Some(Frame::Condition) => {
@@ -214,7 +214,7 @@ fn then_part(mut frames: Frames, value: Expr) -> Result<Formula, Refused>
 
 // The value, and `else` behind it.
 fn otherwise_part(mut frames: Frames, value: Expr) -> Result<Formula, Refused>
-    ensures { Gives result (otherwise_part (value, frames)) }
+    ensures { GivesOutcome result (otherwise_part (value, frames)) }
 {
     match frames.pop() {
         Some(Frame::Consequence { condition }) => {
@@ -238,7 +238,7 @@ fn after_value(
     value: Expr,
     token: &Token,
 ) -> Result<Formula, Refused>
-    ensures { Gives result (after_value value frames token.now) }
+    ensures { GivesOutcome result (after_value value frames token.now) }
 {
     match token {
         Token::Operator(operator) => {
@@ -267,7 +267,7 @@ fn after_value(
 
 // An operand is due, and this token stands there.
 fn after_due(frames: Frames, token: Token) -> Result<Formula, Refused>
-    ensures { Gives result (after_due frames token) }
+    ensures { GivesOutcome result (after_due frames token) }
 {
     let operand = match token {
         Token::Name(word) => Operand::Name(word),
@@ -293,7 +293,7 @@ fn after_called(
     word: Word,
     token: Token,
 ) -> Result<Formula, Refused>
-    ensures { Gives result (after_called frames word token) }
+    ensures { GivesOutcome result (after_called frames word token) }
 {
     let args = Items::new(alloc);
     if let Token::Mark(Mark::Close) = &token {
@@ -308,7 +308,7 @@ fn after_called(
 
 // `if`, and this token behind it.
 fn after_if(frames: Frames, token: &Token) -> Result<Formula, Refused>
-    ensures { Gives result (after_if frames token.now) }
+    ensures { GivesOutcome result (after_if frames token.now) }
 {
     match token {
         Token::Mark(Mark::Open) => open(frames, Frame::Condition),
@@ -329,7 +329,7 @@ impl Formula {
 
     /// The expression with one more token.
     pub fn step(self, alloc: Global, token: Token) -> Result<Formula, Refused>
-        ensures { Gives result (formula_step self token) }
+        ensures { GivesOutcome result (formula_step self token) }
     {
         let Formula { frames, operand } = self;
         match operand {
@@ -351,7 +351,7 @@ impl Formula {
 
     /// The tree of the whole expression.
     pub fn whole(self, alloc: Global) -> Result<Expr, Refused>
-        ensures { Gives result (whole self) }
+        ensures { GivesOutcome result (whole self) }
     {
         let Formula {
             mut frames,

@@ -5,7 +5,7 @@ ghost use Rattle.script_syntax.specs.declared.tree.Script.{Script};
 ghost use Rattle.script_syntax.specs.Faults.{IsExact};
 ghost use Rattle.script_syntax.specs.Grammar.{Derives};
 ghost use Rattle.script_syntax.specs.Places.{first_place};
-ghost use Rattle.script_syntax.specs.Tokens.{AreTokens, Scanned};
+ghost use Rattle.script_syntax.specs.Tokens.{AreScriptTokens, Scanned};
 ghost use Rattle.script_syntax.specs.inside.Reading.{tree_of};
 ghost use Rattle.script_syntax.specs.inside.Scanning.{scan};
 ghost use Rattle.script_syntax.specs.declared.token.Token.{Token};
@@ -13,8 +13,8 @@ ghost use Rattle.script_syntax.specs.declared.token.Token.{Token};
 /// A text has one list of tokens, with the place of a first byte that begins none where there is one: that which the
 /// scanner finds.
 pub fn one_list_of_tokens()
-    ensures found { (text : List ℕ) → AreTokens text (scan text 0 Bindings first_place) }
-    ensures one { (text : List ℕ) (a b : Scanned) → AreTokens text a → AreTokens text b → a ≡ b }
+    ensures found { (text : List ℕ) → AreScriptTokens text (scan text 0 Bindings first_place) }
+    ensures one { (text : List ℕ) (a b : Scanned) → AreScriptTokens text a → AreScriptTokens text b → a ≡ b }
 {}
 
 /// Tokens derive at most one tree.

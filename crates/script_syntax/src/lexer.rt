@@ -3,7 +3,7 @@ ghost use Rattle.std.specs.List.{prefix_len};
 ghost use Rattle.std.specs.Char.{is_ascii_digit};
 ghost use Rattle.text_base.specs.Bytes.{is_file_byte, is_word_byte};
 ghost use Rattle.script_syntax.specs.Spelling.{key_spelled, one_byte_symbol, operator_spelled, run_token, two_byte_symbol, word_token};
-ghost use Rattle.script_syntax.specs.inside.Outcomes.{Gives};
+ghost use Rattle.script_syntax.specs.inside.Outcomes.{GivesOutcome};
 ghost use Rattle.script_syntax.specs.inside.Scanning.{comment_len, digits_len, file_at, mantissa_len, number_len, plain_at, power_len, sign_len, symbol_at, token_at};
 
 use crate::formula::Refused;
@@ -255,7 +255,7 @@ fn symbol_at(text: &[u8]) -> Option<Found>
 // The token at the front outside of file places.
 #[tactic(auto, unfolding(crate::specs::inside::Scanning::plain_at))]
 fn plain_at(alloc: Global, text: &[u8]) -> Result<Found, Refused>
-    ensures { Gives result (plain_at text.now) }
+    ensures { GivesOutcome result (plain_at text.now) }
 {
     let Some((first, rest)) = text.split_first() else {
         return Err(Refused::Token);
@@ -294,7 +294,7 @@ fn run_token(alloc: Global, mode: Mode, run: &[u8]) -> Result<Token, AllocError>
 // The token at the front in a file place.
 #[tactic(auto, unfolding(crate::specs::inside::Scanning::file_at))]
 fn file_at(alloc: Global, mode: Mode, text: &[u8]) -> Result<Found, Refused>
-    ensures { Gives result (file_at mode text.now) }
+    ensures { GivesOutcome result (file_at mode text.now) }
 {
     let Some((first, rest)) = text.split_first() else {
         return Err(Refused::Token);
@@ -313,7 +313,7 @@ fn file_at(alloc: Global, mode: Mode, text: &[u8]) -> Result<Found, Refused>
 
 /// The longest token at the front of a text, where one begins there.
 pub fn token_at(alloc: Global, mode: Mode, text: &[u8]) -> Result<Found, Refused>
-    ensures { Gives result (token_at mode text.now) }
+    ensures { GivesOutcome result (token_at mode text.now) }
 {
     match mode {
         Mode::Bindings | Mode::Sections => plain_at(alloc, text),

@@ -4,8 +4,8 @@ ghost use Rattle.script_syntax.specs.declared.tree.Script.{Script};
 ghost use Rattle.script_syntax.specs.Answers.{Reads, TellsFault};
 ghost use Rattle.script_syntax.specs.Faults.{IsFaulty, IsScript};
 ghost use Rattle.script_syntax.specs.WellMade.{IsWellMade};
-ghost use Rattle.script_syntax.specs.inside.Reading.{fault_at, read_scanned, step_at, tree_of, tree_or_end};
-ghost use Rattle.script_syntax.specs.Listed.{counts_of};
+ghost use Rattle.script_syntax.specs.inside.Reading.{syntax_fault_at, read_scanned, step_at, tree_of, tree_or_end};
+ghost use Rattle.script_syntax.specs.Listed.{counts_behind};
 ghost use Rattle.script_syntax.specs.inside.Scanner.{scan_of};
 ghost use Rattle.script_syntax.specs.inside.Readings.{finish};
 
@@ -20,7 +20,7 @@ use std::alloc::Global;
 
 // The fault of this kind at a place.
 fn fault(place: Place, kind: SyntaxKind) -> ReadScript
-    ensures { result ≡ ReadScript.Syntax (fault_at place kind) }
+    ensures { result ≡ ReadScript.Syntax (syntax_fault_at place kind) }
 {
     ReadScript::Syntax(SyntaxFault {
         line: place.line,
@@ -68,7 +68,7 @@ fn take(
 fn read(alloc: Global, mut scanner: Scanner<'_>, mut reading: Reading) -> Result<Script, ReadScript>
     requires line { scanner.place.line + length scanner.rest.now ≤ 268435457 }
     requires column { scanner.place.column + length scanner.rest.now ≤ 268435457 }
-    ensures { Reads result (read_scanned reading (counts_of []) scanner.entry.place (scan_of scanner.entry)) }
+    ensures { Reads result (read_scanned reading (counts_behind []) scanner.entry.place (scan_of scanner.entry)) }
 {
     let mut counts = Counts::new();
     let mut end = scanner.place;

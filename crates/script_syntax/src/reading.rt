@@ -1,6 +1,6 @@
 ghost use Rattle.std.specs.Prelude.{◌≡◌, IfOk, Ok, Some, None, if◌then◌else◌};
 ghost use Rattle.script_syntax.specs.Numbers.{steps_of};
-ghost use Rattle.script_syntax.specs.inside.Outcomes.{Gives};
+ghost use Rattle.script_syntax.specs.inside.Outcomes.{GivesOutcome};
 ghost use Rattle.script_syntax.specs.inside.Readings.{add_entry, add_statement, after_areamap, after_bindings, after_bound, after_bound_colon, after_bound_equal, after_bound_kind, after_covered, after_formula, after_named, after_reported, after_section, after_start, after_timed, finish, is_mark, kind_of, new_reading, reading_step, timer_end, timer_to};
 
 use crate::formula::{Formula, Refused};
@@ -90,7 +90,7 @@ fn is_mark(token: &Token, mark: Mark) -> bool
 
 // The reading with this phase, where the token is this mark.
 fn behind_mark(script: Script, phase: Phase, token: &Token, mark: Mark) -> Result<Reading, Refused>
-    ensures { Gives result (if is_mark mark token.now then Some (record { script = script; phase = phase }) else None) }
+    ensures { GivesOutcome result (if is_mark mark token.now then Some (record { script = script; phase = phase }) else None) }
 {
     if is_mark(token, mark) {
         Ok(Reading { script, phase })
@@ -137,7 +137,7 @@ fn add_entry(
     target: Target,
     kind: Option<Kind>,
 ) -> Result<Reading, Refused>
-    ensures { Gives result (Some (add_entry script name target kind)) }
+    ensures { GivesOutcome result (Some (add_entry script name target kind)) }
 {
     script.bindings.push(Binding { name, target, kind })?;
     now(script, Phase::Bindings)
@@ -151,7 +151,7 @@ fn add_statement(
     name: Word,
     expr: Expr,
 ) -> Result<Reading, Refused>
-    ensures { Gives result (Some (add_statement script section report name expr)) }
+    ensures { GivesOutcome result (Some (add_statement script section report name expr)) }
 {
     let statement = Statement { report, name, expr };
     match section {
@@ -162,7 +162,7 @@ fn add_statement(
 }
 
 fn after_start(script: Script, token: &Token) -> Result<Reading, Refused>
-    ensures { Gives result (after_start script token.now) }
+    ensures { GivesOutcome result (after_start script token.now) }
 {
     match token {
         Token::Key(Key::Binding) => now(script, Phase::Bindings),
@@ -172,7 +172,7 @@ fn after_start(script: Script, token: &Token) -> Result<Reading, Refused>
 }
 
 fn after_bindings(script: Script, token: Token) -> Result<Reading, Refused>
-    ensures { Gives result (after_bindings script token) }
+    ensures { GivesOutcome result (after_bindings script token) }
 {
     match token {
         Token::Name(name) => now(script, Phase::BoundName(name)),
@@ -182,7 +182,7 @@ fn after_bindings(script: Script, token: Token) -> Result<Reading, Refused>
 }
 
 fn after_bound_equal(script: Script, name: Word, token: Token) -> Result<Reading, Refused>
-    ensures { Gives result (after_bound_equal script name token) }
+    ensures { GivesOutcome result (after_bound_equal script name token) }
 {
     match token {
         Token::File(file) => now(script, Phase::Bound(name, Target::File(file))),
@@ -197,7 +197,7 @@ fn after_bound(
     target: Target,
     token: &Token,
 ) -> Result<Reading, Refused>
-    ensures { Gives result (after_bound script name target token.now) }
+    ensures { GivesOutcome result (after_bound script name target token.now) }
 {
     match token {
         Token::Mark(Mark::Semicolon) => add_entry(script, name, target, None),
@@ -212,7 +212,7 @@ fn after_bound_colon(
     target: Target,
     token: &Token,
 ) -> Result<Reading, Refused>
-    ensures { Gives result (after_bound_colon script name target token.now) }
+    ensures { GivesOutcome result (after_bound_colon script name target token.now) }
 {
     let Token::Name(word) = token else {
         return Err(Refused::Token);
@@ -230,7 +230,7 @@ fn after_bound_kind(
     kind: Kind,
     token: &Token,
 ) -> Result<Reading, Refused>
-    ensures { Gives result (after_bound_kind script name target kind token.now) }
+    ensures { GivesOutcome result (after_bound_kind script name target kind token.now) }
 {
     if is_mark(token, Mark::Semicolon) {
         add_entry(script, name, target, Some(kind))
@@ -240,7 +240,7 @@ fn after_bound_kind(
 }
 
 fn after_areamap(mut script: Script, token: Token) -> Result<Reading, Refused>
-    ensures { Gives result (after_areamap script token) }
+    ensures { GivesOutcome result (after_areamap script token) }
 {
     match token {
         Token::File(area) => {
@@ -252,7 +252,7 @@ fn after_areamap(mut script: Script, token: Token) -> Result<Reading, Refused>
 }
 
 fn after_covered(script: Script, token: &Token) -> Result<Reading, Refused>
-    ensures { Gives result (after_covered script token.now) }
+    ensures { GivesOutcome result (after_covered script token.now) }
 {
     match token {
         Token::Key(Key::Timer) => now(script, Phase::Timer),
@@ -263,7 +263,7 @@ fn after_covered(script: Script, token: &Token) -> Result<Reading, Refused>
 
 // A number of `timer`, behind which this phase comes.
 fn timer_number(script: Script, phase: Phase, token: &Token) -> Result<Reading, Refused>
-    ensures { Gives result (timer_end script phase token.now) }
+    ensures { GivesOutcome result (timer_end script phase token.now) }
 {
     match token {
         Token::Number(_) => Ok(Reading { script, phase }),
@@ -273,7 +273,7 @@ fn timer_number(script: Script, phase: Phase, token: &Token) -> Result<Reading, 
 
 // The second number of `timer`, which is the last step.
 fn timer_to(mut script: Script, token: &Token) -> Result<Reading, Refused>
-    ensures { Gives result (timer_to script token.now) }
+    ensures { GivesOutcome result (timer_to script token.now) }
 {
     match token {
         Token::Number(word) => {
@@ -285,7 +285,7 @@ fn timer_to(mut script: Script, token: &Token) -> Result<Reading, Refused>
 }
 
 fn after_timed(script: Script, token: &Token) -> Result<Reading, Refused>
-    ensures { Gives result (after_timed script token.now) }
+    ensures { GivesOutcome result (after_timed script token.now) }
 {
     match token {
         Token::Key(Key::Initial) => now(script, Phase::Section(Section::Initial)),
@@ -295,7 +295,7 @@ fn after_timed(script: Script, token: &Token) -> Result<Reading, Refused>
 }
 
 fn after_section(script: Script, section: Section, token: Token) -> Result<Reading, Refused>
-    ensures { Gives result (after_section script section token) }
+    ensures { GivesOutcome result (after_section script section token) }
 {
     match token {
         Token::Name(name) => now(script, Phase::Named(section, false, name)),
@@ -312,7 +312,7 @@ fn after_section(script: Script, section: Section, token: Token) -> Result<Readi
 }
 
 fn after_reported(script: Script, section: Section, token: Token) -> Result<Reading, Refused>
-    ensures { Gives result (after_reported script section token) }
+    ensures { GivesOutcome result (after_reported script section token) }
 {
     match token {
         Token::Name(name) => now(script, Phase::Named(section, true, name)),
@@ -328,7 +328,7 @@ fn after_named(
     name: Word,
     token: &Token,
 ) -> Result<Reading, Refused>
-    ensures { Gives result (after_named script section report name token.now) }
+    ensures { GivesOutcome result (after_named script section report name token.now) }
 {
     if is_mark(token, Mark::Equal) {
         let formula = Formula::new(alloc);
@@ -347,7 +347,7 @@ fn after_formula(
     formula: Formula,
     token: Token,
 ) -> Result<Reading, Refused>
-    ensures { Gives result (after_formula script section report name formula token) }
+    ensures { GivesOutcome result (after_formula script section report name formula token) }
 {
     if is_mark(&token, Mark::Semicolon) {
         let expr = formula.whole(alloc)?;
@@ -378,7 +378,7 @@ impl Reading {
 
     /// The script with one more token.
     pub fn step(self, alloc: Global, token: Token) -> Result<Reading, Refused>
-        ensures { Gives result (reading_step self token) }
+        ensures { GivesOutcome result (reading_step self token) }
     {
         let Reading { script, phase } = self;
         match phase {

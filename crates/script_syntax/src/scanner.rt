@@ -1,5 +1,5 @@
 ghost use Rattle.std.specs.Prelude.{◌≡◌, ◌<◌, ◌≤◌, ◌+◌, ◌^◌, length, take, drop, IfOk};
-ghost use Rattle.script_syntax.specs.Faults.{place_behind};
+ghost use Rattle.script_syntax.specs.Faults.{place_after_token};
 ghost use Rattle.script_syntax.specs.Places.{after_bytes};
 ghost use Rattle.script_syntax.specs.inside.Scanner.{IsGapless, IsNextOf, IsRoomy, KeepsRoom, gap_len, scan_of};
 
@@ -22,7 +22,7 @@ impl Placed {
     /// The place behind the token.
     pub fn end(&self) -> Place
         requires { self.now.place.column + self.now.len < 2 ^ 32 }
-        ensures { result ≡ place_behind self.now }
+        ensures { result ≡ place_after_token self.now }
     {
         Place {
             line: self.place.line,

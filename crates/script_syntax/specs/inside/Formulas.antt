@@ -16,7 +16,7 @@ use Rattle.script_syntax.specs.declared.frames.Frame.TheVariants as frames
 use Rattle.script_syntax.specs.declared.formula.Operand.{Operand}
 use Rattle.script_syntax.specs.declared.formula.Operand.TheVariants as operands
 use Rattle.script_syntax.specs.declared.formula.Formula.{Formula}
-use Rattle.script_syntax.specs.Grammar.{operator_word, joined, call_one, call_two, call_three}
+use Rattle.script_syntax.specs.Grammar.{operator_word, call_joined, call_one, call_two, call_three}
 use Rattle.script_syntax.specs.inside.Levels.{level_of, left_level, right_level}
 
 -- how tightly an operand is bound once this frame is closed over it, or 0 where a token closes it
@@ -53,7 +53,7 @@ top_level (f ∷ fs) = frame_level f
 
 -- an operand with a frame closed over it
 abbrev pub closed : Frame → Expr → Expr
-closed (frames.Left left o) v = joined o left v
+closed (frames.Left left o) v = call_joined o left v
 closed frames.Negated v = call_one (codes "not") v
 closed frames.Negative v = call_one (codes "-") v
 closed frames.Brackets v = v
@@ -93,6 +93,7 @@ close_in v (frames.Condition ∷ fs) = None
 close_in v (frames.Consequence condition ∷ fs) = Some (valued (call_two (codes "if") condition v) fs)
 close_in v (frames.Alternative condition consequence ∷ fs) = Some (valued (call_three (codes "if") condition consequence v) fs)
 
+-- a value and its frames with `)` behind it
 abbrev pub close_bracket : Expr × List Frame → Option Formula
 close_bracket c = close_in c.0 c.1
 
@@ -108,6 +109,7 @@ next_in v (frames.Condition ∷ fs) = opened (frames.Consequence v) fs
 next_in v (frames.Consequence condition ∷ fs) = opened (frames.Alternative condition v) fs
 next_in v (frames.Alternative condition consequence ∷ fs) = None
 
+-- a value and its frames with a comma behind it
 abbrev pub next_part : Expr × List Frame → Option Formula
 next_part c = next_in c.0 c.1
 
@@ -123,6 +125,7 @@ then_in v (frames.Condition ∷ fs) = opened (frames.Consequence v) fs
 then_in v (frames.Consequence condition ∷ fs) = None
 then_in v (frames.Alternative condition consequence ∷ fs) = None
 
+-- a value and its frames with `then` behind it
 abbrev pub then_part : Expr × List Frame → Option Formula
 then_part c = then_in c.0 c.1
 
@@ -138,6 +141,7 @@ otherwise_in v (frames.Condition ∷ fs) = None
 otherwise_in v (frames.Consequence condition ∷ fs) = opened (frames.Alternative condition v) fs
 otherwise_in v (frames.Alternative condition consequence ∷ fs) = None
 
+-- a value and its frames with `else` behind it
 abbrev pub otherwise_part : Expr × List Frame → Option Formula
 otherwise_part c = otherwise_in c.0 c.1
 
@@ -220,6 +224,7 @@ abbrev pub is_open : Token → Bool
 is_open (tokens.Mark marks.Open) = true
 is_open _ = false
 
+-- whether a token is a closing bracket
 abbrev pub is_close : Token → Bool
 is_close (tokens.Mark marks.Close) = true
 is_close _ = false
@@ -236,6 +241,7 @@ after_name fs w t = if is_open t then Some (record { frames = fs; operand = oper
 abbrev pub after_if : List Frame → Token → Option Formula
 after_if fs t = if is_open t then opened frames.Condition fs else None
 
+-- these frames and what stands in the innermost, with one more token
 abbrev pub step_operand : List Frame → Operand → Token → Option Formula
 step_operand fs operands.Due t = after_due fs t
 step_operand fs (operands.Name w) t = after_name fs w t
@@ -252,15 +258,17 @@ abbrev pub alone_in : Expr → List Frame → Option Expr
 alone_in v [] = Some v
 alone_in v (f ∷ fs) = None
 
-abbrev pub alone : Expr × List Frame → Option Expr
-alone c = alone_in c.0 c.1
+-- the value where no frame is left behind it
+abbrev pub alone_of : Expr × List Frame → Option Expr
+alone_of c = alone_in c.0 c.1
 
+-- the tree of an expression that ends here, or none
 abbrev pub whole_operand : List Frame → Operand → Option Expr
 whole_operand fs operands.Due = None
-whole_operand fs (operands.Name w) = alone (close 1 (exprs.Name w) fs)
+whole_operand fs (operands.Name w) = alone_of (close 1 (exprs.Name w) fs)
 whole_operand fs (operands.Called w) = None
 whole_operand fs operands.If = None
-whole_operand fs (operands.Value v) = alone (close 1 v fs)
+whole_operand fs (operands.Value v) = alone_of (close 1 v fs)
 
 -- the tree of a whole expression, or none
 abbrev pub whole : Formula → Option Expr

@@ -9,11 +9,12 @@ pub data Went : Type 0 where
   done : Reading → Went
   stuck : List Token → Went
 
-abbrev pub onward : Option Reading → List Token → (Reading → Went) → Went
-onward None ts next = stuck ts
-onward (Some r) ts next = next r
+-- a token that was taken leads on, and another one stops
+abbrev pub went_onward : Option Reading → List Token → (Reading → Went) → Went
+went_onward None ts next = stuck ts
+went_onward (Some r) ts next = next r
 
 -- where tokens lead from a reading
 abbrev pub go : Reading → List Token → Went
 go r [] = done r
-go r (t ∷ ts) = onward (reading_step r t) (t ∷ ts) (λ next. go next ts)
+go r (t ∷ ts) = went_onward (reading_step r t) (t ∷ ts) (λ next. go next ts)

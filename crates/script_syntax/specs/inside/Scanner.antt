@@ -34,6 +34,7 @@ pub record KeepsRoom (old new : Scanner) : Type 0 where
 
 -- what stood next, and what is left behind it
 abbrev pub IsNextOf : Scanner → Scanner → Next → Type 0
-IsNextOf old new (next.Token t) = (scan_of old ≡ with_token t (scan_of new)) × (t.place.column + t.len ≤ old.place.column + length old.rest.now) × (length new.rest.now + 1 ≤ length old.rest.now)
+IsNextOf old new (next.Token t) = (scan_of old ≡ with_token t (scan_of new))
+    × (t.place.column + t.len ≤ old.place.column + length old.rest.now) × (length new.rest.now + 1 ≤ length old.rest.now)
 IsNextOf old new (next.Byte place) = scan_of old ≡ scanned [] (Byte place)
 IsNextOf old new next.End = scan_of old ≡ scanned [] Whole

@@ -1,5 +1,6 @@
 -- The tokens of a text, found byte by byte.
-use Rattle.std.specs.Prelude.{ℕ, zero, suc, ◌+◌, ◌-◌, min, Bool, true, false, not, ◌||◌, ◌==◌, if◌then◌else◌, List, [], ◌∷◌, ◌++◌, length, take, drop, take_while, Option, Some, None}
+use Rattle.std.specs.Prelude.{ℕ, zero, suc, ◌+◌, ◌-◌, min, Bool, true, false, not, ◌||◌, ◌==◌, if◌then◌else◌}
+use Rattle.std.specs.Prelude.{List, [], ◌∷◌, ◌++◌, length, take, drop, take_while, Option, Some, None}
 use Rattle.std.specs.Char.{is_ascii_digit}
 use Rattle.std.specs.List.{prefix_len}
 use Rattle.text_base.specs.Bytes.{is_blank, is_letter, is_word_byte, is_file_byte, point, line_feed}
@@ -11,7 +12,7 @@ use Rattle.script_syntax.specs.declared.place.Place.{Place}
 use Rattle.script_syntax.specs.declared.lexer.Found.{Found}
 use Rattle.script_syntax.specs.declared.scanner.Placed.{Placed}
 use Rattle.script_syntax.specs.Places.{after_byte}
-use Rattle.script_syntax.specs.Spelling.{is_sign, is_power_letter, word_token, one_byte_symbol, two_byte_symbol, run_token, mode_after}
+use Rattle.script_syntax.specs.Spelling.{is_sign, is_exponent_letter, word_token, one_byte_symbol, two_byte_symbol, run_token, mode_after}
 use Rattle.script_syntax.specs.Tokens.{Ending, Whole, Byte, Scanned}
 
 -- how many digits stand at the front
@@ -43,12 +44,13 @@ with_digits sign digits = if digits == 0 then 0 else 1 + sign + min digits 6
 -- how long the longest power at the front is, or 0
 unfoldable pub power_len : List ℕ → ℕ
 power_len [] = 0
-power_len (b ∷ bs) = if is_power_letter b then with_digits (sign_len bs) (digits_len (drop (sign_len bs) bs)) else 0
+power_len (b ∷ bs) = if is_exponent_letter b then with_digits (sign_len bs) (digits_len (drop (sign_len bs) bs)) else 0
 
 -- how long the longest number at the front is, or 0
 unfoldable pub number_len : List ℕ → ℕ
 number_len bs = if mantissa_len bs == 0 then 0 else mantissa_len bs + power_len (drop (mantissa_len bs) bs)
 
+-- a token and how many bytes it has
 abbrev pub found : Token → ℕ → Option Found
 found t n = Some (record { token = t; len = n })
 
@@ -76,12 +78,16 @@ number_of_len (suc n) bs = found (tokens.Number (take (suc n) bs)) (suc n)
 -- the token at the front outside of file places
 unfoldable pub plain_at : List ℕ → Option Found
 plain_at [] = None
-plain_at (b ∷ bs) = if is_letter b then found (word_token (b ∷ take_while is_word_byte bs)) (1 + prefix_len is_word_byte bs) else number_of_len (number_len (b ∷ bs)) (b ∷ bs)
+plain_at (b ∷ bs) =
+    if is_letter b then found (word_token (b ∷ take_while is_word_byte bs)) (1 + prefix_len is_word_byte bs)
+    else number_of_len (number_len (b ∷ bs)) (b ∷ bs)
 
 -- the token at the front in a file place
 unfoldable pub file_at : Mode → List ℕ → Option Found
 file_at mode [] = None
-file_at mode (b ∷ bs) = if is_file_byte b then found (run_token mode (b ∷ take_while is_file_byte bs)) (1 + prefix_len is_file_byte bs) else symbol_at (b ∷ bs)
+file_at mode (b ∷ bs) =
+    if is_file_byte b then found (run_token mode (b ∷ take_while is_file_byte bs)) (1 + prefix_len is_file_byte bs)
+    else symbol_at (b ∷ bs)
 
 -- the token at the front
 abbrev pub token_at : Mode → List ℕ → Option Found
@@ -94,9 +100,11 @@ token_at Sections bs = plain_at bs
 abbrev pub comment_len : List ℕ → ℕ
 comment_len bs = prefix_len (λ b. not (b == line_feed)) bs
 
+-- these tokens, and this end
 abbrev pub scanned : List Placed → Ending → Scanned
 scanned ts e = record { tokens = ts; ending = e }
 
+-- one more token at the front
 abbrev pub with_token : Placed → Scanned → Scanned
 with_token t s = record { tokens = t ∷ s.tokens; ending = s.ending }
 
@@ -105,6 +113,7 @@ abbrev pub at_token : Option Found → Mode → Place → (ℕ → Mode → Scan
 at_token None mode p rest = scanned [] (Byte p)
 at_token (Some f) mode p rest = with_token (record { token = f.token; place = p; len = f.len }) (rest (f.len - 1) (mode_after mode f.token))
 
+-- what a byte begins: a blank, a comment, a token or nothing
 abbrev pub at_front : Mode → Place → ℕ → List ℕ → (ℕ → Mode → Scanned) → Scanned
 at_front mode p b bs rest =
     if is_blank b then rest 0 mode
