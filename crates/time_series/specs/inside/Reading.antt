@@ -51,7 +51,9 @@ at_line number (Err kind) = Err (record { kind = kind; line = number })
 unfoldable pub step_rows_read : Kind → ℕ → ℕ → List Line → Result (List SeriesRow) SeriesFault
 step_rows_read kind width before [] = Ok []
 step_rows_read kind width before (line ∷ lines) =
-    at_line line.number (step_row_read kind width before line.bytes) >>= λ row. step_rows_read kind width row.step lines >>= λ rows. Ok (row ∷ rows)
+    at_line line.number (step_row_read kind width before line.bytes) >>= λ row.
+    step_rows_read kind width row.step lines >>= λ rows.
+    Ok (row ∷ rows)
 
 -- ---- the head
 
