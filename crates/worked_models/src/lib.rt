@@ -6,3 +6,5 @@
 mod cells;
 #[cfg(test)]
 mod maps;
+#[cfg(test)]
+mod plain;

@@ -1,0 +1,7 @@
+-- What is shared is the program.
+use Rattle.std.proofs.Common.{sym, subst}
+use Rattle.map_meaning.specs.Programs.{IsWellFormed}
+use Rattle.worked_models.proofs.plain.run.Goals as goal
+
+pub run-requires-clause-program : goal.run-requires-clause-program
+run-requires-clause-program c = subst IsWellFormed (sym c.in_ok-program.ensures.ok) c.requires.program

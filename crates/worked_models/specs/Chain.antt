@@ -1,0 +1,58 @@
+-- The program of a script in which most statements read what those before them give:
+--   report C = min(A, B, 2);  D = boolean(C);  report E = if(D then A else 7);  report F = E * B + C;
+--   report G = nominal(F);  report H = C;  I = -F;
+use Rattle.std.specs.Prelude.{pos, Bool, true, false, ◌&&◌, ◌==◌, List, [], ◌∷◌, length}
+use Rattle.std.specs.List.{list_all}
+use Rattle.cell_values.specs.declared.cell.Cell.{Cell}
+use Rattle.cell_values.specs.declared.cell.Cell.TheVariants.{Mv, Val}
+use Rattle.cell_values.specs.declared.kind.Kind.TheVariants.{Boolean, Nominal, Scalar}
+use Rattle.cell_values.specs.Kinds.{is_value}
+use Rattle.map_meaning.specs.declared.op.Op.TheVariants as op
+use Rattle.map_meaning.specs.declared.program.InputUse.{InputUse}
+use Rattle.map_meaning.specs.declared.program.Operand.TheVariants.{Unused, Literal, Input, Initial}
+use Rattle.map_meaning.specs.declared.program.Operation.{Operation}
+use Rattle.map_meaning.specs.declared.program.OutputKind.TheVariants.{InitialGrid}
+use Rattle.map_meaning.specs.declared.program.OutputUse.{OutputUse}
+use Rattle.map_meaning.specs.declared.program.Program.{Program}
+use Rattle.map_meaning.specs.declared.program.Role.TheVariants.{Grid}
+
+-- two grids of scalars, `A` and `B`
+abbrev pub chain_inputs : List InputUse
+chain_inputs = record { file = 65 ∷ []; role = Grid; kind = Scalar } ∷ record { file = 66 ∷ []; role = Grid; kind = Scalar } ∷ []
+
+-- the operations of the script, in post-order
+abbrev pub chain_operations : List Operation
+chain_operations =
+    record { op = op.Min; kind = Scalar; a = Input 0; b = Input 1; c = Unused; d = Unused; statement = 1; number = 1; kept = false }
+    ∷ record { op = op.Min; kind = Scalar; a = Initial 0; b = Literal Scalar (Val (pos 2000000)); c = Unused; d = Unused; statement = 1; number = 2; kept = true }
+    ∷ record { op = op.ToBoolean; kind = Boolean; a = Initial 1; b = Unused; c = Unused; d = Unused; statement = 2; number = 1; kept = false }
+    ∷ record { op = op.IfElse; kind = Scalar; a = Initial 2; b = Input 0; c = Literal Scalar (Val (pos 7000000)); d = Unused; statement = 3; number = 1; kept = true }
+    ∷ record { op = op.Mul; kind = Scalar; a = Initial 3; b = Input 1; c = Unused; d = Unused; statement = 4; number = 1; kept = false }
+    ∷ record { op = op.Add; kind = Scalar; a = Initial 4; b = Initial 1; c = Unused; d = Unused; statement = 4; number = 2; kept = true }
+    ∷ record { op = op.ToNominal; kind = Nominal; a = Initial 5; b = Unused; c = Unused; d = Unused; statement = 5; number = 1; kept = true }
+    ∷ record { op = op.CopyOf; kind = Scalar; a = Initial 1; b = Unused; c = Unused; d = Unused; statement = 6; number = 1; kept = true }
+    ∷ record { op = op.Neg; kind = Scalar; a = Initial 5; b = Unused; c = Unused; d = Unused; statement = 7; number = 1; kept = false }
+    ∷ []
+
+-- the reports of the script, as `C` and `E` to `H`
+abbrev pub chain_outputs : List OutputUse
+chain_outputs =
+    record { file = 67 ∷ []; kind = InitialGrid; value = Initial 1; cell_kind = Scalar; statement = 1 }
+    ∷ record { file = 69 ∷ []; kind = InitialGrid; value = Initial 3; cell_kind = Scalar; statement = 3 }
+    ∷ record { file = 70 ∷ []; kind = InitialGrid; value = Initial 5; cell_kind = Scalar; statement = 4 }
+    ∷ record { file = 71 ∷ []; kind = InitialGrid; value = Initial 6; cell_kind = Nominal; statement = 5 }
+    ∷ record { file = 72 ∷ []; kind = InitialGrid; value = Initial 7; cell_kind = Scalar; statement = 6 }
+    ∷ []
+
+-- the whole
+abbrev pub chain_program : Program
+chain_program = record { inputs = chain_inputs; initial = chain_operations; outputs = chain_outputs; area = 0; steps = 0 }
+
+-- the cell is a scalar, or missing
+abbrev pub is_scalar : Cell → Bool
+is_scalar Mv = true
+is_scalar (Val z) = is_value Scalar z
+
+-- the cells are those of a map of scalars with two rows and three columns
+abbrev pub is_input : List Cell → Bool
+is_input cells = (length cells == 6) && list_all is_scalar cells
