@@ -5,10 +5,10 @@ use Rattle.tile_map.proofs.Callers.{is_part-part_of}
 use Rattle.tile_map.specs.Parts.{Outcome, TellsFirstOver, first_over}
 use Rattle.map_meaning.specs.declared.program.Operation.{Operation}
 use Rattle.map_meaning.specs.declared.program.Program.{Program}
-use Rattle.map_meaning.specs.Evaluation.{Done, operation_part, outcome_at, value_of}
+use Rattle.map_meaning.specs.Evaluation.{Done, operation_part, outcome_at, operation_value}
 use Rattle.map_meaning.specs.Maps.{WholeMap}
 use Rattle.map_meaning.specs.Overs.{map_or_over}
-use Rattle.map_meaning.specs.Scenes.{Scene, places_of}
+use Rattle.map_meaning.specs.Scenes.{Scene, place_count}
 
 -- a first Over stands at a place
 told_below : (f : ℕ → Outcome) (places : ℕ) (over : Option ℕ) (place : ℕ) → TellsFirstOver f places over → over ≡ Some place → place < places
@@ -16,16 +16,16 @@ told_below f places None place tells is = absurd (cc)
 told_below f places (Some first) place tells is = let same : first ≡ place = cc in let below : first < places = tells.0 in omega arith
 
 -- the first Over of an operation stands at a place of the map
-pub over_below : (program : Program) (scene : Scene) (done : Done) (o : Operation) (place : ℕ) → (operation_part program scene done o).over ≡ Some place → place < places_of scene
+pub over_below : (program : Program) (scene : Scene) (done : Done) (o : Operation) (place : ℕ) → (operation_part program scene done o).over ≡ Some place → place < place_count scene
 unfolding operation_part
 over_below program scene done o place is =
     let f = outcome_at program scene done o in
-    told_below f (places_of scene) (first_over f (places_of scene)) place (is_part-part_of f (places_of scene)).over is
+    told_below f (place_count scene) (first_over f (place_count scene)) place (is_part-part_of f (place_count scene)).over is
 
 -- the map of an operation has all its cells
-pub part_size : (program : Program) (scene : Scene) (done : Done) (o : Operation) → length (operation_part program scene done o).cells ≡ places_of scene
+pub part_size : (program : Program) (scene : Scene) (done : Done) (o : Operation) → length (operation_part program scene done o).cells ≡ place_count scene
 unfolding operation_part
-part_size program scene done o = (is_part-part_of (outcome_at program scene done o) (places_of scene)).size
+part_size program scene done o = (is_part-part_of (outcome_at program scene done o) (place_count scene)).size
 
 -- a map that an operation gave is that of its part
 gave : (scene : Scene) (statement number : ℕ) (over : Option ℕ) (cells m : WholeMap) → map_or_over scene statement number over cells ≡ Ok m → cells ≡ m
@@ -33,7 +33,7 @@ gave scene statement number None cells m is = cc
 gave scene statement number (Some place) cells m is = absurd (cc)
 
 -- the map that an operation gave has all its cells
-pub map_size : (program : Program) (scene : Scene) (done : Done) (o : Operation) (m : WholeMap) → value_of program scene done o ≡ Ok m → length m ≡ places_of scene
+pub map_size : (program : Program) (scene : Scene) (done : Done) (o : Operation) (m : WholeMap) → operation_value program scene done o ≡ Ok m → length m ≡ place_count scene
 map_size program scene done o m is =
     let part = operation_part program scene done o in
     sym (ap length (gave scene o.statement o.number part.over part.cells m is)) ∙ part_size program scene done o

@@ -17,12 +17,12 @@ use Rattle.map_meaning.specs.declared.program.Operand.{Operand}
 use Rattle.map_meaning.specs.declared.program.Operand.TheVariants.{Unused, Literal, Input, Initial}
 use Rattle.map_meaning.specs.declared.program.Operation.{Operation}
 use Rattle.map_meaning.specs.declared.program.Program.{Program}
-use Rattle.map_meaning.specs.Evaluation.{Done, operand_cell, operation_part, value_of, values_of}
+use Rattle.map_meaning.specs.Evaluation.{Done, operand_cell, operation_part, operation_value, operation_values}
 use Rattle.map_meaning.specs.Maps.{CellAt, WholeMap, nth}
 use Rattle.map_meaning.specs.Overs.{whole_or_over}
 use Rattle.map_meaning.specs.Programs.{is_initial, kinds_of}
 use Rattle.map_meaning.specs.Rules.{outcome_of}
-use Rattle.map_meaning.specs.Scenes.{Scene, places_of, setting_in}
+use Rattle.map_meaning.specs.Scenes.{Scene, place_count, setting_in}
 use Rattle.map_meaning.specs.Spans.{kept_maps, scene_of, stage_of, told_of, whole_span}
 use Rattle.plain_eval.specs.inside.Finished.{with_kept}
 use Rattle.plain_eval.specs.inside.Readers.{reads}
@@ -40,7 +40,7 @@ told_next (Err at) next = record { maps = []; over = Some at }
 abbrev pub told_from : Program → Scene → List StepMap → ℕ → Done → List Operation → StageEnd
 told_from program scene kept n done [] = record { maps = kept; over = None }
 told_from program scene kept n done (o ∷ more) =
-    told_next (value_of program scene done o) (λ m. told_from program scene (with_kept kept n o m) (n + 1) (and_map done m) more)
+    told_next (operation_value program scene done o) (λ m. told_from program scene (with_kept kept n o m) (n + 1) (and_map done m) more)
 
 -- ---- the maps behind are those in front, and more
 
@@ -50,12 +50,12 @@ before_push maps m k below = get_or_append_left maps (m ∷ []) [] k below
 
 module _ (program : Program) (scene : Scene) (first end : ℕ) where
   -- what operations give has the maps that were done in their places
-  values_keep : (operations : List Operation) (done after : Done) (k : ℕ) → values_of program scene (span.Initial first end) done operations ≡ Ok after → k < length done.initial → nth after.initial k ≡ nth done.initial k
+  values_keep : (operations : List Operation) (done after : Done) (k : ℕ) → operation_values program scene (span.Initial first end) done operations ≡ Ok after → k < length done.initial → nth after.initial k ≡ nth done.initial k
   values_keep [] done after k is below = let same : done ≡ after = cc in ap (λ (d : Done). nth d.initial k) (sym same)
-  values_keep (o ∷ more) done after k is below = by_value (value_of program scene done o) is (λ m is. values_keep more (and_map done m) after k is (let longer = length_push done.initial m in omega arith))
+  values_keep (o ∷ more) done after k is below = by_value (operation_value program scene done o) is (λ m is. values_keep more (and_map done m) after k is (let longer = length_push done.initial m in omega arith))
     where
-      by_value : (r : Result WholeMap OverAt) → (r >>= λ m. values_of program scene (span.Initial first end) (and_map done m) more) ≡ Ok after →
-          ((m : WholeMap) → values_of program scene (span.Initial first end) (and_map done m) more ≡ Ok after → nth after.initial k ≡ nth (done.initial ++ m ∷ []) k) → nth after.initial k ≡ nth done.initial k
+      by_value : (r : Result WholeMap OverAt) → (r >>= λ m. operation_values program scene (span.Initial first end) (and_map done m) more) ≡ Ok after →
+          ((m : WholeMap) → operation_values program scene (span.Initial first end) (and_map done m) more ≡ Ok after → nth after.initial k ≡ nth (done.initial ++ m ∷ []) k) → nth after.initial k ≡ nth done.initial k
       by_value (Err at) is later = absurd (cc)
       by_value (Ok m) is later = later m is ∙ before_push done.initial m k below
 
@@ -82,12 +82,12 @@ module _ (program : Program) (scene : Scene) (first end : ℕ) where
 
   -- what is told one by one is what is told of all
   told_is : (operations : List Operation) (kept : List StepMap) (n : ℕ) (done : Done) → length done.initial ≡ n →
-      told_from program scene kept n done operations ≡ told_behind kept n operations (values_of program scene (span.Initial first end) done operations)
+      told_from program scene kept n done operations ≡ told_behind kept n operations (operation_values program scene (span.Initial first end) done operations)
   told_is [] kept n done count = ap (λ (maps : List StepMap). let told : StageEnd = record { maps = maps; over = None } in told) (sym (append-nil kept))
-  told_is (o ∷ more) kept n done count = by_value (value_of program scene done o) (λ m. told_is more (with_kept kept n o m) (n + 1) (and_map done m) (let longer = length_push done.initial m in omega arith))
+  told_is (o ∷ more) kept n done count = by_value (operation_value program scene done o) (λ m. told_is more (with_kept kept n o m) (n + 1) (and_map done m) (let longer = length_push done.initial m in omega arith))
     where
       later : WholeMap → Result Done OverAt
-      later m = values_of program scene (span.Initial first end) (and_map done m) more
+      later m = operation_values program scene (span.Initial first end) (and_map done m) more
 
       told_later : WholeMap → StageEnd
       told_later m = told_from program scene (with_kept kept n o m) (n + 1) (and_map done m) more
@@ -111,8 +111,8 @@ told_whole program known =
     let end = length program.initial in
     let scene = scene_of known 0 in
     told_is program scene 0 end program.initial [] 0 (record { initial = [] }) refl
-    ∙ (same_told (values_of program scene (span.Initial 0 end) (record { initial = [] }) program.initial)
-    ∙ ap (λ operations. told_of program (span.Initial 0 end) 0 (values_of program scene (span.Initial 0 end) (record { initial = [] }) operations)) (sym (whole_range program.initial)))
+    ∙ (same_told (operation_values program scene (span.Initial 0 end) (record { initial = [] }) program.initial)
+    ∙ ap (λ operations. told_of program (span.Initial 0 end) 0 (operation_values program scene (span.Initial 0 end) (record { initial = [] }) operations)) (sym (whole_range program.initial)))
   where
     same_told : (r : Result Done OverAt) → told_behind program (scene_of known 0) 0 (length program.initial) [] 0 program.initial r ≡ told_of program (whole_span program) 0 r
     same_told (Ok after) = ap (λ operations. let told : StageEnd = record { maps = kept_maps 0 after.initial 0 operations; over = None } in told) (sym (whole_range program.initial))
@@ -135,7 +135,7 @@ operand_same scene x y (Initial k) same = ap cell_at (same k (eq-eqb k k refl))
 part_same : (program : Program) (scene : Scene) (x y : Done) (o : Operation) → ((k : ℕ) → reads k o ≡ true → nth x.initial k ≡ nth y.initial k) → operation_part program scene x o ≡ operation_part program scene y o
 unfolding operation_part
 part_same program scene x y o same =
-    let of = λ (a b c d : CellAt). part_of (outcome_of o.op (setting_in scene (kinds_of program o)) (a ∷ b ∷ c ∷ d ∷ [])) (places_of scene) in
+    let of = λ (a b c d : CellAt). part_of (outcome_of o.op (setting_in scene (kinds_of program o)) (a ∷ b ∷ c ∷ d ∷ [])) (place_count scene) in
     let cell = operand_cell scene in
     let a = operand_same scene x y o.a (λ k is. same k (or_left (is_initial k o.a) _ is)) in
     let b = operand_same scene x y o.b (λ k is. same k (or_right (is_initial k o.a) _ (or_left (is_initial k o.b) _ is))) in
@@ -162,7 +162,7 @@ told_same program scene [] kept n x y count same = refl
 told_same program scene (o ∷ more) kept n x y count same =
     ap (λ part. told_next (whole_or_over scene o.statement o.number part) (λ m. told_from program scene (with_kept kept n o m) (n + 1) (and_map x m) more))
     (part_same program scene x y o (λ k is. same k (or_left (reads k o) (list_any (reads k) more) is)))
-    ∙ by_value (value_of program scene y o) (λ m.
+    ∙ by_value (operation_value program scene y o) (λ m.
     told_same program scene more (with_kept kept n o m) (n + 1) (and_map x m) (and_map y m) (length_push x.initial m ∙ (ap (λ k. k + 1) count ∙ sym (length_push y.initial m)))
     (λ k is. same_push x.initial y.initial m k count (same k (or_right (reads k o) (list_any (reads k) more) is))))
   where

@@ -7,9 +7,9 @@ use Rattle.map_meaning.specs.declared.known.StageEnd.{StageEnd}
 use Rattle.map_meaning.specs.declared.known.StepMap.{StepMap}
 use Rattle.map_meaning.specs.declared.program.Operation.{Operation}
 use Rattle.map_meaning.specs.declared.program.Program.{Program}
-use Rattle.map_meaning.specs.Evaluation.{Done, value_of}
+use Rattle.map_meaning.specs.Evaluation.{Done, operation_value}
 use Rattle.map_meaning.specs.Maps.{WholeMap}
-use Rattle.map_meaning.specs.Scenes.{Scene, places_of}
+use Rattle.map_meaning.specs.Scenes.{Scene, place_count}
 use Rattle.plain_eval.specs.inside.Finished.{LetsGo, with_kept}
 use Rattle.plain_eval.specs.inside.Held.{IsHeld, done_of, held_at}
 use Rattle.plain_eval.specs.inside.Readers.{AreLastReaders}
@@ -31,10 +31,10 @@ module _ (program : Program) (scene : Scene) (operations : List Operation) (d : 
   front : drop n program.initial ≡ get_or operations n d ∷ drop (n + 1) program.initial
   front = sym (ap (λ (x : List Operation). drop n x) same) ∙ (drop_more operations n d within ∙ ap (λ (x : List Operation). get_or operations n d ∷ drop (n + 1) x) same)
 
-  module _ (before shown : List (Option WholeMap)) (r : Result WholeMap OverAt) (show : shown ≡ before) (value : r ≡ value_of program scene (done_of shown) (get_or operations n d)) where
+  module _ (before shown : List (Option WholeMap)) (r : Result WholeMap OverAt) (show : shown ≡ before) (value : r ≡ operation_value program scene (done_of shown) (get_or operations n d)) where
     -- its value, by the maps that are held
-    pub value_is : value_of program scene (done_of before) (get_or operations n d) ≡ r
-    value_is = ap (λ (held : List (Option WholeMap)). value_of program scene (done_of held) (get_or operations n d)) (sym show) ∙ sym value
+    pub value_is : operation_value program scene (done_of before) (get_or operations n d) ≡ r
+    value_is = ap (λ (held : List (Option WholeMap)). operation_value program scene (done_of held) (get_or operations n d)) (sym show) ∙ sym value
 
     -- an operation that is Over ends it
     pub next_over : (kept : List StepMap) (at : OverAt) (told : StageEnd) → r ≡ Err at → told_from program scene kept n (done_of before) (drop n program.initial) ≡ told → told ≡ record { maps = []; over = Some at }
@@ -58,9 +58,9 @@ module _ (program : Program) (scene : Scene) (operations : List Operation) (d : 
 
     -- and each map that is read later is held
     pub next_held : (m : WholeMap) (last : List ℕ) (between after : List (Option WholeMap)) → r ≡ Ok m → IsStep last n (get_or operations n d) m before between after →
-        ((k : ℕ) → k < n → n ≤ get_or last k 0 → IsHeld (places_of scene) (held_at before k)) → (k : ℕ) → k < n + 1 → n + 1 ≤ get_or last k 0 → IsHeld (places_of scene) (held_at after k)
+        ((k : ℕ) → k < n → n ≤ get_or last k 0 → IsHeld (place_count scene) (held_at before k)) → (k : ℕ) → k < n + 1 → n + 1 ≤ get_or last k 0 → IsHeld (place_count scene) (held_at after k)
     next_held m last between after is step there =
-        step_held last n (get_or operations n d) m before between after step (places_of scene) (map_size program scene (done_of before) (get_or operations n d) m (value_is ∙ is)) there
+        step_held last n (get_or operations n d) m before between after step (place_count scene) (map_size program scene (done_of before) (get_or operations n d) m (value_is ∙ is)) there
 
 -- behind the last operation the kept maps are told
 pub all_told : (program : Program) (scene : Scene) (operations : List Operation) (kept : List StepMap) (n : ℕ) (done : Done) (told : StageEnd) → operations ≡ program.initial → length operations ≤ n →

@@ -19,7 +19,7 @@ use Rattle.map_meaning.specs.declared.program.Program.{Program}
 use Rattle.map_meaning.specs.Evaluation.{Done, operand_cell, operation_part}
 use Rattle.map_meaning.specs.Programs.{IsBelow, are_used_first, is_unused, kinds_of, operand_kind, operands_of}
 use Rattle.map_meaning.specs.Rules.{kind_at}
-use Rattle.map_meaning.specs.Scenes.{Scene, places_of, setting_in}
+use Rattle.map_meaning.specs.Scenes.{Scene, place_count, setting_in}
 use Rattle.map_meaning.specs.Table.{HasKinds, allows, ask_at, common_kind, row_of}
 use Rattle.plain_eval.specs.inside.Held.{IsOneOf}
 
@@ -148,8 +148,8 @@ work_is op.ToDirectional kinds kind h = to_directional (common_kind (row_of op.T
 
 -- what the work of an operation gives of its operands is the operation's map, with its first Over
 pub part_means : (program : Program) (scene : Scene) (done : Done) (o : Operation) →
-    part_of (λ place. work_outcome (work_of o.op (kinds_of program o)) (operand_cell scene done o.a place) (operand_cell scene done o.b place) (operand_cell scene done o.c place) (operand_cell scene done o.d place)) (places_of scene)
+    part_of (λ place. work_outcome (work_of o.op (kinds_of program o)) (operand_cell scene done o.a place) (operand_cell scene done o.b place) (operand_cell scene done o.c place) (operand_cell scene done o.d place)) (place_count scene)
     ≡ operation_part program scene done o
 unfolding operation_part
 part_means program scene done o =
-    ap (λ f. part_of f (places_of scene)) (fun_ext (λ place. sym (works_mean o.op (setting_in scene (kinds_of program o)) (map (operand_cell scene done) (operands_of o)) place)))
+    ap (λ f. part_of f (place_count scene)) (fun_ext (λ place. sym (works_mean o.op (setting_in scene (kinds_of program o)) (map (operand_cell scene done) (operands_of o)) place)))

@@ -1,5 +1,5 @@
 ghost use Rattle.std.specs.Prelude.{◌≡◌, ◌<◌, ◌≤◌, ◌*◌, ℕ, IfOk};
-ghost use Rattle.map_meaning.specs.Evaluation.{operation_part, value_of};
+ghost use Rattle.map_meaning.specs.Evaluation.{operation_part, operation_value};
 ghost use Rattle.map_meaning.specs.Overs.{over_at as five_numbers};
 ghost use Rattle.map_meaning.specs.Spans.{scene_of};
 ghost use Rattle.plain_eval.specs.inside.Held.{AreThere, IsOneOf, done_of};
@@ -63,7 +63,7 @@ pub fn value(
     requires few { known.now.rows * known.now.cols ≤ most_cells }
     requires operation { IsOneOf program.now operation }
     requires operands { AreThere (known.now.rows * known.now.cols) known.now.maps held.now operation }
-    ensures { IfOk result (λ value. value ≡ value_of program.now (scene_of known.now 0) (done_of held.now) operation) }
+    ensures { IfOk result (λ value. value ≡ operation_value program.now (scene_of known.now 0) (done_of held.now) operation) }
 {
     let Part { cells, over } = part(alloc, program, operation, known, held)?;
     match over {
