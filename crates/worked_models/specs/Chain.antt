@@ -1,14 +1,17 @@
 -- The program of a script in which most statements read what those before them give:
 --   report C = min(A, B, 2);  D = boolean(C);  report E = if(D then A else 7);  report F = E * B + C;
 --   report G = nominal(F);  report H = C;  I = -F;
-use Rattle.std.specs.Prelude.{pos, Bool, true, false, ◌&&◌, ◌==◌, List, [], ◌∷◌, length}
+use Rattle.std.specs.Prelude.{pos, ℕ, Bool, true, false, ◌&&◌, ◌==◌, List, [], ◌∷◌, length}
 use Rattle.std.specs.List.{list_all}
 use Rattle.cell_values.specs.declared.cell.Cell.{Cell}
 use Rattle.cell_values.specs.declared.cell.Cell.TheVariants.{Mv, Val}
+use Rattle.cell_values.specs.declared.kind.Kind.{Kind}
 use Rattle.cell_values.specs.declared.kind.Kind.TheVariants.{Boolean, Nominal, Scalar}
 use Rattle.cell_values.specs.Kinds.{is_value}
+use Rattle.map_meaning.specs.declared.op.Op.{Op}
 use Rattle.map_meaning.specs.declared.op.Op.TheVariants as op
 use Rattle.map_meaning.specs.declared.program.InputUse.{InputUse}
+use Rattle.map_meaning.specs.declared.program.Operand.{Operand}
 use Rattle.map_meaning.specs.declared.program.Operand.TheVariants.{Unused, Literal, Input, Initial}
 use Rattle.map_meaning.specs.declared.program.Operation.{Operation}
 use Rattle.map_meaning.specs.declared.program.OutputKind.TheVariants.{InitialGrid}
@@ -20,18 +23,23 @@ use Rattle.map_meaning.specs.declared.program.Role.TheVariants.{Grid}
 abbrev pub chain_inputs : List InputUse
 chain_inputs = record { file = 65 ∷ []; role = Grid; kind = Scalar } ∷ record { file = 66 ∷ []; role = Grid; kind = Scalar } ∷ []
 
+-- an operation of a statement, with up to three operands
+abbrev pub chain_operation : Op → Kind → Operand → Operand → Operand → ℕ → ℕ → Bool → Operation
+chain_operation op kind a b c statement number kept =
+    record { op = op; kind = kind; a = a; b = b; c = c; d = Unused; statement = statement; number = number; kept = kept }
+
 -- the operations of the script, in post-order
 abbrev pub chain_operations : List Operation
 chain_operations =
-    record { op = op.Min; kind = Scalar; a = Input 0; b = Input 1; c = Unused; d = Unused; statement = 1; number = 1; kept = false }
-    ∷ record { op = op.Min; kind = Scalar; a = Initial 0; b = Literal Scalar (Val (pos 2000000)); c = Unused; d = Unused; statement = 1; number = 2; kept = true }
-    ∷ record { op = op.ToBoolean; kind = Boolean; a = Initial 1; b = Unused; c = Unused; d = Unused; statement = 2; number = 1; kept = false }
-    ∷ record { op = op.IfElse; kind = Scalar; a = Initial 2; b = Input 0; c = Literal Scalar (Val (pos 7000000)); d = Unused; statement = 3; number = 1; kept = true }
-    ∷ record { op = op.Mul; kind = Scalar; a = Initial 3; b = Input 1; c = Unused; d = Unused; statement = 4; number = 1; kept = false }
-    ∷ record { op = op.Add; kind = Scalar; a = Initial 4; b = Initial 1; c = Unused; d = Unused; statement = 4; number = 2; kept = true }
-    ∷ record { op = op.ToNominal; kind = Nominal; a = Initial 5; b = Unused; c = Unused; d = Unused; statement = 5; number = 1; kept = true }
-    ∷ record { op = op.CopyOf; kind = Scalar; a = Initial 1; b = Unused; c = Unused; d = Unused; statement = 6; number = 1; kept = true }
-    ∷ record { op = op.Neg; kind = Scalar; a = Initial 5; b = Unused; c = Unused; d = Unused; statement = 7; number = 1; kept = false }
+    chain_operation op.Min Scalar (Input 0) (Input 1) Unused 1 1 false
+    ∷ chain_operation op.Min Scalar (Initial 0) (Literal Scalar (Val (pos 2000000))) Unused 1 2 true
+    ∷ chain_operation op.ToBoolean Boolean (Initial 1) Unused Unused 2 1 false
+    ∷ chain_operation op.IfElse Scalar (Initial 2) (Input 0) (Literal Scalar (Val (pos 7000000))) 3 1 true
+    ∷ chain_operation op.Mul Scalar (Initial 3) (Input 1) Unused 4 1 false
+    ∷ chain_operation op.Add Scalar (Initial 4) (Initial 1) Unused 4 2 true
+    ∷ chain_operation op.ToNominal Nominal (Initial 5) Unused Unused 5 1 true
+    ∷ chain_operation op.CopyOf Scalar (Initial 1) Unused Unused 6 1 true
+    ∷ chain_operation op.Neg Scalar (Initial 5) Unused Unused 7 1 false
     ∷ []
 
 -- the reports of the script, as `C` and `E` to `H`
