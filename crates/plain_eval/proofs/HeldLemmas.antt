@@ -1,8 +1,8 @@
 -- The maps that are held: those that are read later are there.
-use Rattle.std.proofs.Common.{◌≡◌, ℕ, zero, suc, ◌+◌, ◌<◌, ◌≤◌, true, false, cond, ◌&&◌, nat_eq, List, [], ◌∷◌, ◌++◌, length, get_or, drop, map, refl, sym, ap, subst, ◌∙◌, inl, inr, arith}
+use Rattle.std.proofs.Common.{◌≡◌, ℕ, zero, suc, ◌+◌, ◌<◌, ◌≤◌, true, false, cond, ◌&&◌, nat_eq, nat_lt, List, [], ◌∷◌, ◌++◌, length, get_or, drop, map, refl, sym, ap, subst, ◌∙◌, inl, inr, arith}
 use Rattle.std.specs.Prelude.{None, Some, Option, All}
 use Rattle.std.specs.List.{list_any}
-use Rattle.std.proofs.lemmas.Bool.{cases_order, eq-eqb, ne_eqb, or_left, or_right}
+use Rattle.std.proofs.lemmas.Bool.{cases_eq, cases_order, eq-eqb, le-ltb, lt-ltb, ne_eqb, or_left, or_right}
 use Rattle.std.proofs.lemmas.List.{drop_more, get_or_append_left, get_or_past, get_or_push, length-map, length_push}
 use Rattle.map_meaning.specs.declared.program.InputUse.{InputUse}
 use Rattle.map_meaning.specs.declared.program.Operand.{Operand}
@@ -96,12 +96,12 @@ operands_there program places n maps held last d all within inputs count are the
 pub record IsStep (last : List ℕ) (n : ℕ) (o : Operation) (m : WholeMap) (before between after : List (Option WholeMap)) : Type 0 where
   pub count : length before ≡ n
   pub let_go : LetsGo last n o before between
-  pub held : after ≡ between ++ cond (nat_eq (get_or last n 0) n) None (Some m) ∷ []
+  pub held : after ≡ between ++ cond (nat_lt n (get_or last n 0)) (Some m) None ∷ []
 
 module _ (last : List ℕ) (n : ℕ) (o : Operation) (m : WholeMap) (before between after : List (Option WholeMap)) (step : IsStep last n o m before between after) where
   -- there is one more
   pub step_count : length after ≡ n + 1
-  step_count = ap length step.held ∙ (length_push between (cond (nat_eq (get_or last n 0) n) None (Some m)) ∙ ap (λ k. k + 1) (step.let_go.count ∙ step.count))
+  step_count = ap length step.held ∙ (length_push between (cond (nat_lt n (get_or last n 0)) (Some m) None) ∙ ap (λ k. k + 1) (step.let_go.count ∙ step.count))
 
   -- an earlier map that is read later is there as it was
   step_before : (k : ℕ) → k < n → n < get_or last k 0 → held_at after k ≡ held_at before k
@@ -109,16 +109,37 @@ module _ (last : List ℕ) (n : ℕ) (o : Operation) (m : WholeMap) (before betw
       let within : k < length between = let a = step.let_go.count in let b = step.count in omega arith in
       let others : nat_eq (get_or last k 0) n ≡ false = ne_eqb (get_or last k 0) n (λ same. omega arith) in
       ap (λ (held : List (Option WholeMap)). held_at held k) step.held
-      ∙ (get_or_append_left between (cond (nat_eq (get_or last n 0) n) None (Some m) ∷ []) None k within
+      ∙ (get_or_append_left between (cond (nat_lt n (get_or last n 0)) (Some m) None ∷ []) None k within
       ∙ (step.let_go.each k ∙ ap (λ b. cond (b && reads k o) None (held_at before k)) others))
+
+  -- the last item
+  step_last : held_at after n ≡ cond (nat_lt n (get_or last n 0)) (Some m) None
+  step_last = ap (λ (held : List (Option WholeMap)). held_at held n) step.held ∙ get_or_push between (cond (nat_lt n (get_or last n 0)) (Some m) None) None n (step.let_go.count ∙ step.count)
 
   -- the map of the operation is there, where it is read later
   step_here : n < get_or last n 0 → held_at after n ≡ Some m
-  step_here later =
-      let others : nat_eq (get_or last n 0) n ≡ false = ne_eqb (get_or last n 0) n (λ same. omega arith) in
-      ap (λ (held : List (Option WholeMap)). held_at held n) step.held
-      ∙ (get_or_push between (cond (nat_eq (get_or last n 0) n) None (Some m)) None n (step.let_go.count ∙ step.count)
-      ∙ ap (λ b. cond b None (Some m)) others)
+  step_here later = step_last ∙ ap (λ b. cond b (Some m) None) (lt-ltb n (get_or last n 0) later)
+
+  -- and no map that is not read later
+  pub step_only : ((k : ℕ) → k < n → get_or last k 0 ≡ n → reads k o ≡ true) → ((k : ℕ) → k < n → get_or last k 0 < n → held_at before k ≡ None) → (k : ℕ) → k < n + 1 → get_or last k 0 < n + 1 → held_at after k ≡ None
+  step_only read gone k below past = elim (cases_order k n) as (λ x. held_at after k ≡ None) [
+    | inl same ↦
+        let none : get_or last n 0 < n + 1 = subst (λ j. get_or last j 0 < n + 1) same past in
+        subst (λ j. held_at after j ≡ None) (sym same) (step_last ∙ ap (λ b. cond b (Some m) None) (le-ltb n (get_or last n 0) (omega arith)))
+    | inr (inl less) ↦ step_earlier k less ∙ earlier k less past
+    | inr (inr more) ↦ absurd (omega arith)
+  ]
+    where
+      step_earlier : (k : ℕ) → k < n → held_at after k ≡ held_at between k
+      step_earlier k less =
+          let within : k < length between = let a = step.let_go.count in let b = step.count in omega arith in
+          ap (λ (held : List (Option WholeMap)). held_at held k) step.held ∙ get_or_append_left between (cond (nat_lt n (get_or last n 0)) (Some m) None ∷ []) None k within
+
+      earlier : (k : ℕ) → k < n → get_or last k 0 < n + 1 → held_at between k ≡ None
+      earlier k less past = elim (cases_eq (get_or last k 0) n) as (λ x. held_at between k ≡ None) [
+        | inl same ↦ step.let_go.each k ∙ (ap (λ b. cond (b && reads k o) None (held_at before k)) (eq-eqb (get_or last k 0) n same) ∙ ap (λ b. cond b None (held_at before k)) (read k less same))
+        | inr other ↦ step.let_go.each k ∙ (ap (λ b. cond (b && reads k o) None (held_at before k)) (ne_eqb (get_or last k 0) n other) ∙ gone k less (omega arith))
+      ]
 
   -- so each map that is read later is there
   pub step_held : (places : ℕ) → length m ≡ places → ((k : ℕ) → k < n → n ≤ get_or last k 0 → IsHeld places (held_at before k)) → (k : ℕ) → k < n + 1 → n + 1 ≤ get_or last k 0 → IsHeld places (held_at after k)

@@ -1,5 +1,5 @@
 -- Who reads which map last.
-use Rattle.std.proofs.Common.{◌≡◌, ℕ, zero, suc, ◌+◌, ◌≤◌, Bool, true, false, cond, ◌||◌, List, [], ◌∷◌, drop, refl, ap, ◌∙◌, ◌&&◌, arith}
+use Rattle.std.proofs.Common.{◌≡◌, ℕ, zero, suc, ◌+◌, ◌<◌, ◌≤◌, Bool, true, false, cond, ◌||◌, ◌&&◌, List, [], ◌∷◌, drop, get_or, refl, sym, ap, subst, ◌∙◌, inl, inr, ◌⊎◌, arith}
 use Rattle.std.specs.List.{list_any}
 use Rattle.map_meaning.specs.declared.program.Operation.{Operation}
 use Rattle.plain_eval.specs.inside.Readers.{last_reader, reads}
@@ -24,6 +24,27 @@ read_later k d n zero (o ∷ more) is = by_case (reads k o) is (λ is. read_late
     by_case false is later = let h : n + 1 + 0 ≤ last_reader k d (n + 1) more = later is in omega arith
 read_later k d n (suc i) (o ∷ more) is =
     let h : n + 1 + i ≤ last_reader k (cond (reads k o) n d) (n + 1) more = read_later k (cond (reads k o) n d) (n + 1) i more is in omega arith
+
+-- the operation at this place, behind the others, reads the map
+abbrev IsReaderAt : ℕ → ℕ → List Operation → ℕ → Type 0
+IsReaderAt k n operations r = (i : ℕ) × (r ≡ n + i) × ((d : Operation) → reads k (get_or operations i d) ≡ true)
+
+-- the last reader reads the map, where there is one
+last_reads : (k d n r : ℕ) (operations : List Operation) → last_reader k d n operations ≡ r → (r ≡ d) ⊎ IsReaderAt k n operations r
+last_reads k d n r [] is = inl (sym is)
+last_reads k d n r (o ∷ more) is = by_case (reads k o) refl (last_reads k (cond (reads k o) n d) (n + 1) r more is)
+  where
+    by_case : (b : Bool) → reads k o ≡ b → (r ≡ cond b n d) ⊎ IsReaderAt k (n + 1) more r → (r ≡ d) ⊎ IsReaderAt k n (o ∷ more) r
+    by_case true it (inl same) = inr (0, omega arith, λ e. it)
+    by_case false it (inl same) = inl same
+    by_case b it (inr later) = let at : r ≡ n + 1 + later.0 = later.1 in inr (suc later.0, omega arith, later.2)
+
+-- a last reader behind the operation itself reads its map
+pub last_one_reads : (k n : ℕ) (operations : List Operation) (d : Operation) → last_reader k k 0 operations ≡ n → k < n → reads k (get_or operations n d) ≡ true
+last_one_reads k n operations d is behind = elim (last_reads k k 0 n operations is) [
+  | inl same ↦ absurd (omega arith)
+  | inr at ↦ let place : at.0 ≡ n = (let e : n ≡ 0 + at.0 = at.1 in omega arith) in subst (λ i. reads k (get_or operations i d) ≡ true) place (at.2 d)
+]
 
 -- ---- four operands, one after the other
 

@@ -1,5 +1,5 @@
 -- One operation after others.
-use Rattle.std.proofs.Common.{◌≡◌, ℕ, ◌+◌, ◌<◌, ◌≤◌, cond, nat_eq, List, [], ◌∷◌, ◌++◌, length, get_or, drop, sym, ap, subst, ◌∙◌}
+use Rattle.std.proofs.Common.{◌≡◌, ℕ, ◌+◌, ◌<◌, ◌≤◌, cond, nat_lt, List, [], ◌∷◌, ◌++◌, length, get_or, drop, sym, ap, arith, subst, ◌∙◌}
 use Rattle.std.specs.Prelude.{Ok, Err, Result, None, Some, Option}
 use Rattle.std.proofs.lemmas.List.{drop_all, drop_more}
 use Rattle.map_meaning.specs.declared.known.OverAt.{OverAt}
@@ -13,17 +13,18 @@ use Rattle.map_meaning.specs.Scenes.{Scene, place_count}
 use Rattle.plain_eval.specs.inside.Finished.{LetsGo, with_kept}
 use Rattle.plain_eval.specs.inside.Held.{IsHeld, done_of, held_at}
 use Rattle.plain_eval.specs.inside.Readers.{AreLastReaders}
-use Rattle.plain_eval.proofs.HeldLemmas.{IsStep, step_held, step_length, step_same}
+use Rattle.plain_eval.proofs.HeldLemmas.{IsStep, step_held, step_length, step_only, step_same}
+use Rattle.plain_eval.proofs.ReaderLemmas.{last_one_reads}
 use Rattle.plain_eval.proofs.Parts.{map_size}
 use Rattle.plain_eval.proofs.Stages.{SameRead, and_map, told_from, told_next, told_same}
 
 -- what is known behind an operation, in the words of the code
 pub stepped : (o : Operation) (last first second : List ℕ) (n : ℕ) (m : WholeMap) (before between after : List (Option WholeMap)) → first ≡ last → second ≡ last → length before ≡ n →
-    LetsGo first n o before between → after ≡ between ++ cond (nat_eq (get_or second n 0) n) None (Some m) ∷ [] → IsStep last n o m before between after
+    LetsGo first n o before between → after ≡ between ++ cond (nat_lt n (get_or second n 0)) (Some m) None ∷ [] → IsStep last n o m before between after
 stepped o last first second n m before between after is also count let_go held = record {
   count = count;
   let_go = subst (λ (l : List ℕ). LetsGo l n o before between) is let_go;
-  held = held ∙ ap (λ (l : List ℕ). between ++ cond (nat_eq (get_or l n 0) n) None (Some m) ∷ []) also;
+  held = held ∙ ap (λ (l : List ℕ). between ++ cond (nat_lt n (get_or l n 0)) (Some m) None ∷ []) also;
 }
 
 module _ (program : Program) (scene : Scene) (operations : List Operation) (d : Operation) (n : ℕ) (same : operations ≡ program.initial) (within : n < length operations) where
@@ -61,6 +62,12 @@ module _ (program : Program) (scene : Scene) (operations : List Operation) (d : 
         ((k : ℕ) → k < n → n ≤ get_or last k 0 → IsHeld (place_count scene) (held_at before k)) → (k : ℕ) → k < n + 1 → n + 1 ≤ get_or last k 0 → IsHeld (place_count scene) (held_at after k)
     next_held m last between after is step there =
         step_held last n (get_or operations n d) m before between after step (place_count scene) (map_size program scene (done_of before) (get_or operations n d) m (value_is ∙ is)) there
+
+-- and no other map is
+pub next_only : (operations : List Operation) (d : Operation) (last : List ℕ) (n : ℕ) (m : WholeMap) (before between after : List (Option WholeMap)) → n < length operations → AreLastReaders operations last → IsStep last n (get_or operations n d) m before between after →
+    ((k : ℕ) → k < n → get_or last k 0 < n → held_at before k ≡ None) → (k : ℕ) → k < n + 1 → get_or last k 0 < n + 1 → held_at after k ≡ None
+next_only operations d last n m before between after within are step gone =
+    step_only last n (get_or operations n d) m before between after step (λ k below is. last_one_reads k n operations d (let there : k < length operations = omega arith in sym (are.each k there) ∙ is) below) gone
 
 -- behind the last operation the kept maps are told
 pub all_told : (program : Program) (scene : Scene) (operations : List Operation) (kept : List StepMap) (n : ℕ) (done : Done) (told : StageEnd) → operations ≡ program.initial → length operations ≤ n →

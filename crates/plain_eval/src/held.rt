@@ -1,4 +1,4 @@
-ghost use Rattle.std.specs.Prelude.{◌≡◌, ◌<◌, ◌≤◌, ◌&&◌, ◌==◌, ◌++◌, ◌∷◌, [], ℕ, length, Some, None, OnOk, slice_index_or, if◌then◌else◌};
+ghost use Rattle.std.specs.Prelude.{◌≡◌, ◌<◌, ◌≤◌, ◌&&◌, ◌==◌, ◌++◌, ◌∷◌, [], ℕ, length, Some, None, OnOk, nat_lt, slice_index_or, if◌then◌else◌};
 ghost use Rattle.map_meaning.specs.Programs.{is_initial};
 ghost use Rattle.plain_eval.specs.inside.Finished.{LetsGo, with_kept};
 ghost use Rattle.plain_eval.specs.inside.Held.{held_at};
@@ -38,12 +38,12 @@ pub fn let_go_of_operands(held: &mut Items<Option<Map>>, last: &[u32], n: u32, o
 /// Holds the map of the operation n, where a later one reads it.
 pub fn hold(held: &mut Items<Option<Map>>, last: &[u32], n: u32, map: Map) -> Result<(), AllocError>
     requires { n < length last.now }
-    ensures { OnOk result (held.new ≡ held.old ++ (if slice_index_or last.now n 0 == n then None else Some map) ∷ []) }
+    ensures { OnOk result (held.new ≡ held.old ++ (if nat_lt n (slice_index_or last.now n 0) then Some map else None) ∷ []) }
 {
-    held.push(if last[n as usize] == n {
-        None
-    } else {
+    held.push(if n < last[n as usize] {
         Some(map)
+    } else {
+        None
     })
 }
 

@@ -7,7 +7,7 @@ use Rattle.map_meaning.specs.Spans.{scene_of}
 use Rattle.plain_eval.specs.inside.Held.{done_of}
 use Rattle.plain_eval.proofs.HeldLemmas.{all_read_below, numbered, operands_there, reads_below, step_count}
 use Rattle.plain_eval.proofs.Stages.{told_whole}
-use Rattle.plain_eval.proofs.Steps.{all_told, next_held, next_over, next_told, stepped}
+use Rattle.plain_eval.proofs.Steps.{all_told, next_held, next_only, next_over, next_told, stepped}
 use Rattle.plain_eval.proofs.stage.stage.Goals as goal
 
 pub last_readers-requires-clause-below : goal.last_readers-requires-clause-below
@@ -57,6 +57,7 @@ loop-n-preserved c =
       told = next_told program (scene_of known 0) c.as_slice-operations.result.now _ c.loop-n.n c.as_slice-operations.ensures c.loop-n-test.true c.loop-n.held c.as_slice.result.now c.in_ok-map.field-0 c.as_slice.ensures c.in_ok-map.ensures c.loop-n.kept c.keep.new.kept c.in-Ok.map c.in_ok-last.last.items c.let_go_of_operands.new.held c.hold.new.held _ c.in-Ok.is c.in_ok-last.ensures step c.in_ok-keep.ensures c.loop-n.invariant.told;
       count = step_count c.in_ok-last.last.items c.loop-n.n _ c.in-Ok.map c.loop-n.held c.let_go_of_operands.new.held c.hold.new.held step;
       held = next_held program (scene_of known 0) c.as_slice-operations.result.now _ c.loop-n.n c.as_slice-operations.ensures c.loop-n-test.true c.loop-n.held c.as_slice.result.now c.in_ok-map.field-0 c.as_slice.ensures c.in_ok-map.ensures c.in-Ok.map c.in_ok-last.last.items c.let_go_of_operands.new.held c.hold.new.held c.in-Ok.is step c.loop-n.invariant.held;
+      only = next_only c.as_slice-operations.result.now _ c.in_ok-last.last.items c.loop-n.n c.in-Ok.map c.loop-n.held c.let_go_of_operands.new.held c.hold.new.held c.loop-n-test.true c.in_ok-last.ensures step c.loop-n.invariant.only;
     }
 
 pub returns : goal.returns
