@@ -1,12 +1,12 @@
 -- What the crates above cite: what the reader's answer says.
-use Rattle.std.proofs.Common.{◌≡◌, ℕ, List, Result, Ok, Err, refl, sym, ◌∙◌, subst}
+use Rattle.std.proofs.Common.{ℕ, List, Result, Ok, Err, subst}
 use Rattle.std.specs.Prelude.{IfOk, IfErr}
 use Rattle.script_syntax.specs.declared.fault.ReadScript.{ReadScript}
 use Rattle.script_syntax.specs.declared.fault.ReadScript.TheVariants as errors
 use Rattle.script_syntax.specs.declared.fault.SyntaxFault.{SyntaxFault}
 use Rattle.script_syntax.specs.declared.tree.Script.{Script}
 use Rattle.script_syntax.specs.Answers.{Reads, TellsFault}
-use Rattle.script_syntax.specs.Faults.{tokens_of, IsScript, IsFaulty, IsExact}
+use Rattle.script_syntax.specs.Faults.{tokens_of, IsScript, IsExact}
 use Rattle.script_syntax.specs.WellMade.{IsWellMade}
 use Rattle.script_syntax.specs.declared.place.Mode.TheVariants.{Bindings}
 use Rattle.script_syntax.specs.Places.{first_place}

@@ -1,13 +1,12 @@
 -- Closing frames over a value, with their forms.
-use Rattle.std.proofs.Common.{◌≡◌, ◌<◌, ◌≤◌, ℕ, Bool, true, false, List, [], ◌∷◌, refl, sym, ◌∙◌, ap, arith, cond}
+use Rattle.std.proofs.Common.{◌≡◌, ◌<◌, ◌≤◌, ℕ, Bool, true, false, List, [], ◌∷◌, refl, ◌∙◌, ap, arith, cond}
 use Rattle.std.specs.Prelude.{nat_le}
 use Rattle.std.proofs.lemmas.Bool.Decides.{nat_tests}
 use Rattle.script_syntax.specs.declared.token.Token.{Token}
 use Rattle.script_syntax.specs.declared.tree.Expr.{Expr}
-use Rattle.script_syntax.specs.declared.frames.Frame.{Frame}
 use Rattle.script_syntax.specs.inside.Formulas.{frame_level, frame_hole, hole, top_level, closed, close}
 use Rattle.script_syntax.proofs.Pieces.{Piece, piece_level, piece_on, piece_tree}
-use Rattle.script_syntax.proofs.Rings.{Ring, frame_of, frames_of, ring_on, rings_on, ring_level, AreTight, joins, joins_is, frame_level-ring}
+use Rattle.script_syntax.proofs.Rings.{Ring, frame_of, frames_of, rings_on, AreTight, joins, joins_is, frame_level-ring}
 
 -- the rings that are left, and the piece that the others made of the operand
 pub record Closes (k : ℕ) (rs : List Ring) (p : Piece) : Type 0 where

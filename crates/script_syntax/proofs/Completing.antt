@@ -1,5 +1,5 @@
 -- Whatever was taken can be completed to a script.
-use Rattle.std.proofs.Common.{◌≡◌, ◌<◌, ◌≤◌, ◌++◌, ℕ, Bool, true, false, List, [], ◌∷◌, Option, Some, None, refl, sym, ◌∙◌, ap, arith, append_assoc}
+use Rattle.std.proofs.Common.{◌≡◌, ◌≤◌, ◌++◌, ℕ, Bool, true, List, [], ◌∷◌, Option, Some, None, refl, sym, ◌∙◌, ap, arith, append_assoc}
 use Rattle.std.specs.Prelude.{codes}
 use Rattle.script_syntax.specs.declared.token.Key.TheVariants as keys
 use Rattle.script_syntax.specs.declared.token.Mark.TheVariants as marks
@@ -10,12 +10,12 @@ use Rattle.script_syntax.specs.declared.tree.Target.{Target}
 use Rattle.script_syntax.specs.declared.tree.Target.TheVariants as targets
 use Rattle.cell_values.specs.declared.kind.Kind.{Kind}
 use Rattle.cell_values.specs.declared.kind.Kind.TheVariants.{Scalar}
-use Rattle.script_syntax.specs.Grammar.{Part, by_comma, then_token, else_token, ExprForm, expr_on, PrimForm, number, name, called, call, brackets, choice, choice_else, prim_on, args_one, args_more, args_on, entry_on, entries_on, StatForm, report_on, stat_on, static, timed, ScriptForm, script_on}
+use Rattle.script_syntax.specs.Grammar.{by_comma, then_token, else_token, ExprForm, expr_on, PrimForm, number, name, called, call, brackets, choice, choice_else, prim_on, args_one, args_more, args_on, StatForm, report_on, static, timed, ScriptForm, script_on}
 use Rattle.script_syntax.specs.inside.Formulas.{hole}
 use Rattle.script_syntax.proofs.Pieces.{Piece, of_prim, piece_level, piece_on, as_expr, same_expr}
-use Rattle.script_syntax.proofs.Rings.{Ring, or_left, xor_left, and_left, comp_left, sum_left, prod_left, in_not, in_sign, in_brackets, in_call, in_args, in_condition, in_then, in_else, frame_of, frames_of, ring_on, rings_on, ring_level, AreTight, joins, joins_is, hole_small}
+use Rattle.script_syntax.proofs.Rings.{Ring, or_left, xor_left, and_left, comp_left, sum_left, prod_left, in_not, in_sign, in_brackets, in_call, in_args, in_condition, in_then, in_else, frames_of, ring_on, rings_on, AreTight, joins, joins_is, hole_small}
 use Rattle.script_syntax.proofs.FormulaPasts.{FormulaPast, OperandPast, due, named, opened_call, started_if, valued_as, operand_on, formula_on}
-use Rattle.script_syntax.proofs.ScriptPasts.{Head, Front, in_static, in_initial, in_dynamic, front_on, head_on, more_front, stats_on-append, entries_on-append, more_front_on, Past, at_start, at_bindings, at_bound_name, at_bound_equal, at_bound, at_bound_colon, at_bound_kind, at_areamap, at_area, at_covered, at_timer, at_timer_from, at_timer_to, at_timer_by, at_timed, at_section, at_reported, at_named, at_formula, past_on, IsGood}
+use Rattle.script_syntax.proofs.ScriptPasts.{Head, Front, in_static, in_initial, in_dynamic, front_on, more_front, entries_on-append, more_front_on, Past, at_start, at_bindings, at_bound_name, at_bound_equal, at_bound, at_bound_colon, at_bound_kind, at_areamap, at_area, at_covered, at_timer, at_timer_from, at_timer_to, at_timer_by, at_timed, at_section, at_reported, at_named, at_formula, past_on, IsGood}
 
 -- ---- expressions
 

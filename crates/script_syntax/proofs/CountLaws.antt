@@ -1,10 +1,9 @@
 -- What is counted with one more token.
-use Rattle.std.proofs.Common.{◌≡◌, ℕ, ◌+◌, Bool, true, false, cond, List, [], ◌∷◌, ◌++◌, length, Option, Some, None, refl, sym, ◌∙◌, ap, arith, length-append, count_by}
+use Rattle.std.proofs.Common.{◌≡◌, ℕ, ◌+◌, Bool, true, false, cond, List, [], ◌∷◌, ◌++◌, length, Option, Some, None, refl, ◌∙◌, ap, arith, length-append, count_by}
 use Rattle.std.proofs.lemmas.List.Sums.{sum_by-append}
 use Rattle.std.specs.Prelude.{◌||◌, if◌then◌else◌, unwrap_or, is_some}
 use Rattle.std.specs.Option.{option_map}
 use Rattle.script_syntax.specs.declared.token.Token.{Token}
-use Rattle.script_syntax.specs.declared.counts.Counts.{Counts}
 use Rattle.script_syntax.specs.Listed.{or_earlier, behind_last, behind_first, ends_in, is_semicolon, is_areamap, is_timer, is_section, is_before_statement, is_counted, timer_count, statement_count, token_count, counts_behind}
 use Rattle.script_syntax.specs.inside.Counting.{one_more, timer_after, statements_after, counted_after, counts_after}
 

@@ -1,6 +1,6 @@
 -- What a text gives is its tree, or its first fault, and nothing else is.
-use Rattle.std.proofs.Common.{◌≡◌, ℕ, ◌+◌, Bool, true, false, cond, List, [], ◌∷◌, ◌++◌, Option, Some, None, Result, Ok, Err, refl, sym, ◌∙◌, ap, subst, inl, inr, append_assoc, append-nil}
-use Rattle.std.specs.Prelude.{map, ◌⊎◌, ◌||◌, if◌then◌else◌}
+use Rattle.std.proofs.Common.{◌≡◌, ℕ, ◌+◌, Bool, true, false, List, [], ◌∷◌, ◌++◌, Option, Some, None, Result, Ok, Err, refl, sym, ◌∙◌, ap, subst, inl, inr, append_assoc, append-nil}
+use Rattle.std.specs.Prelude.{◌⊎◌, ◌||◌, if◌then◌else◌}
 use Rattle.text_base.proofs.Callers.{some_is}
 use Rattle.script_syntax.specs.declared.fault.SyntaxKind.{SyntaxKind}
 use Rattle.script_syntax.specs.declared.fault.SyntaxKind.TheVariants as kinds
@@ -12,19 +12,19 @@ use Rattle.script_syntax.specs.declared.place.Mode.TheVariants.{Bindings}
 use Rattle.script_syntax.specs.declared.place.Place.{Place}
 use Rattle.script_syntax.specs.declared.scanner.Placed.{Placed}
 use Rattle.script_syntax.specs.declared.reading.Reading.{Reading}
-use Rattle.script_syntax.specs.Grammar.{Derives, IsViable}
+use Rattle.script_syntax.specs.Grammar.{Derives}
 use Rattle.script_syntax.specs.Listed.{is_long, is_bad_timer, is_entry_too_many, is_statement_too_many, is_large, listed_by, listed, counts_behind, IsClean}
 use Rattle.script_syntax.specs.Places.{first_place}
 use Rattle.script_syntax.specs.Tokens.{Ending, Whole, Byte, Scanned, AreScriptTokens}
-use Rattle.script_syntax.specs.Faults.{tokens_of, place_after_token, end_from, end_place, fault_place, HasListed, HasRefused, HasEnd, IsFault, IsFirstSyntaxFault, IsScript, IsFaulty, IsExact}
+use Rattle.script_syntax.specs.Faults.{tokens_of, place_after_token, end_from, end_place, fault_place, HasListed, HasRefused, HasEnd, IsFault, IsFirstSyntaxFault, IsExact}
 use Rattle.script_syntax.specs.inside.Counting.{counts_after}
 use Rattle.script_syntax.specs.inside.Readings.{new_reading, reading_step, finish}
-use Rattle.script_syntax.specs.inside.Runs.{Went, done, stuck, went_onward, go}
+use Rattle.script_syntax.specs.inside.Runs.{done, went_onward, go}
 use Rattle.script_syntax.specs.inside.Scanning.{scan}
 use Rattle.script_syntax.specs.inside.Reading.{syntax_fault_at, tree_or_end, at_end, listed_or, step_at, and_then, read_from, read_scanned, tree_of}
 use Rattle.script_syntax.proofs.CountLaws.{counts_of-more}
 use Rattle.script_syntax.proofs.ScanLaws.{tokens_one, tokens_are}
-use Rattle.script_syntax.proofs.Viable.{done_viable, done_derives, IsDone, derives_done, go-append, stuck_dead, IsTaken, viable_done}
+use Rattle.script_syntax.proofs.Viable.{done_viable, done_derives, derives_done, go-append, stuck_dead, viable_done}
 
 -- ---- lists
 

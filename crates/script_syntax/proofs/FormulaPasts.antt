@@ -1,12 +1,9 @@
 -- What was taken of an expression, with its forms.
-use Rattle.std.proofs.Common.{◌≡◌, ◌<◌, ◌≤◌, ◌++◌, ℕ, Bool, true, false, List, [], ◌∷◌, Option, Some, None, refl, sym, ◌∙◌, ap, subst, arith, cond}
-use Rattle.std.specs.Prelude.{codes, nat_le, nat_lt, if◌then◌else◌}
+use Rattle.std.proofs.Common.{◌≡◌, ◌<◌, ◌≤◌, ◌++◌, ℕ, Bool, true, false, List, [], ◌∷◌, Some, None, refl, sym, ◌∙◌, ap, arith}
+use Rattle.std.specs.Prelude.{codes, nat_lt, if◌then◌else◌}
 use Rattle.std.proofs.lemmas.Bool.Decides.{nat_tests}
 use Rattle.text_base.proofs.Callers.{some_is}
-use Rattle.script_syntax.specs.declared.token.Comparison.{Comparison}
-use Rattle.script_syntax.specs.declared.token.Sign.{Sign}
 use Rattle.script_syntax.specs.declared.token.Sign.TheVariants.{Plus, Minus}
-use Rattle.script_syntax.specs.declared.token.Factor.{Factor}
 use Rattle.script_syntax.specs.declared.token.Operator.{Operator}
 use Rattle.script_syntax.specs.declared.token.Operator.TheVariants as operators
 use Rattle.script_syntax.specs.declared.token.Key.{Key}
@@ -22,10 +19,10 @@ use Rattle.script_syntax.specs.declared.frames.Frame.TheVariants as frames
 use Rattle.script_syntax.specs.declared.formula.Operand.{Operand}
 use Rattle.script_syntax.specs.declared.formula.Operand.TheVariants as operands
 use Rattle.script_syntax.specs.declared.formula.Formula.{Formula}
-use Rattle.script_syntax.specs.Grammar.{Part, by_word, by_comma, then_token, else_token, ExprForm, expr_on, expr_tree, XorForm, AndForm, NotForm, CompForm, SumForm, ProdForm, UnaryForm, PrimForm, number, name, called, call, brackets, choice, choice_else, prim_on, prim_tree, ArgsForm, args_one, args_more, args_on, args_trees, call_one, call_two, call_three}
+use Rattle.script_syntax.specs.Grammar.{by_word, by_comma, then_token, else_token, ExprForm, expr_on, expr_tree, PrimForm, number, name, called, call, brackets, choice, choice_else, prim_on, prim_tree, args_one, args_more, args_on, args_trees, call_two, call_three}
 use Rattle.script_syntax.specs.inside.Levels.{level_of, left_level}
-use Rattle.script_syntax.specs.inside.Formulas.{frame_level, hole, top_level, close, formula_step, after_value, after_due, after_name, after_called, after_if, value_mark, value_key, due_operator, due_key, due_mark, operate, opened, valued, close_in, close_bracket, next_in, next_part, then_in, then_part, otherwise_in, otherwise_part, is_open, is_close, whole, whole_operand, alone_of, alone_in}
-use Rattle.script_syntax.proofs.Pieces.{Piece, of_prim, piece_level, piece_on, piece_tree, as_expr, as_xor, as_and, as_not, as_sum, as_prod, as_unary, same_expr, same_xor, same_and, same_sum, same_prod, same_unary}
+use Rattle.script_syntax.specs.inside.Formulas.{hole, close, formula_step, after_value, after_due, operate, opened, valued, close_in, close_bracket, next_in, next_part, then_in, then_part, otherwise_in, otherwise_part, is_open, is_close, whole, alone_of, alone_in}
+use Rattle.script_syntax.proofs.Pieces.{Piece, of_prim, piece_level, piece_on, piece_tree, as_expr, as_xor, as_and, as_sum, as_prod, same_expr, same_xor, same_and, same_sum, same_prod}
 use Rattle.script_syntax.proofs.Rings.{Ring, or_left, xor_left, and_left, comp_left, sum_left, prod_left, in_not, in_sign, in_brackets, in_call, in_args, in_condition, in_then, in_else, frame_of, frames_of, ring_on, rings_on, ring_level, AreTight, hole_small}
 use Rattle.script_syntax.proofs.Closing.{Closes, closes}
 

@@ -1,5 +1,5 @@
 -- The limits hold of whatever was taken of tokens without faults of their own.
-use Rattle.std.proofs.Common.{◌≡◌, ℕ, zero, suc, ◌+◌, ◌<◌, ◌≤◌, Bool, true, false, cond, not, List, [], ◌∷◌, ◌++◌, length, Option, Some, None, refl, sym, ◌∙◌, ap, subst, arith, inl, inr, append_assoc, append-nil, length-append}
+use Rattle.std.proofs.Common.{◌≡◌, ℕ, ◌+◌, ◌≤◌, Bool, true, false, not, List, [], ◌∷◌, ◌++◌, length, Option, Some, None, refl, sym, ◌∙◌, ap, subst, arith, inl, inr, append_assoc, append-nil, length-append}
 use Rattle.std.specs.Prelude.{◌⊎◌, ◌||◌, ◌&&◌, ◌==◌, if◌then◌else◌, unwrap_or, nat_le}
 use Rattle.std.proofs.lemmas.Bool.Decides.{nat_tests}
 use Rattle.text_base.specs.Numbers.{whole_number_of}
@@ -24,18 +24,18 @@ use Rattle.script_syntax.specs.declared.reading.Phase.{Phase}
 use Rattle.script_syntax.specs.declared.reading.Phase.TheVariants as phases
 use Rattle.script_syntax.specs.declared.reading.Reading.{Reading}
 use Rattle.script_syntax.specs.Grammar.{Derives}
-use Rattle.script_syntax.specs.Listed.{is_semicolon, is_section, is_before_statement, is_long, is_bad_timer, is_entry_too_many, is_statement_too_many, is_statement_start, is_most, is_large, is_last_step, is_step_number, listed_by, listed, counts_behind, IsClean}
+use Rattle.script_syntax.specs.Listed.{is_semicolon, is_section, is_before_statement, is_long, is_bad_timer, is_entry_too_many, is_statement_too_many, is_statement_start, is_most, is_large, is_last_step, is_step_number, listed_by, counts_behind, IsClean}
 use Rattle.script_syntax.specs.Numbers.{steps_of}
 use Rattle.script_syntax.specs.WellMade.{IsWellMade}
 use Rattle.script_syntax.specs.inside.Counting.{counts_after, timer_after, statements_after}
 use Rattle.script_syntax.specs.inside.Formulas.{formula_step, whole}
-use Rattle.script_syntax.specs.inside.Readings.{new_reading, reading_step, finish, is_mark, same_mark, kind_of, with_kind, with_whole, with_formula, with_statement}
-use Rattle.script_syntax.specs.inside.Runs.{Went, done, stuck, went_onward, go}
+use Rattle.script_syntax.specs.inside.Readings.{new_reading, reading_step, finish, is_mark, kind_of, with_kind, with_whole, with_formula, with_statement}
+use Rattle.script_syntax.specs.inside.Runs.{done, went_onward, go}
 use Rattle.script_syntax.proofs.CountLaws.{counts_of-more}
 use Rattle.script_syntax.proofs.ScriptPasts.{mark_is}
-use Rattle.script_syntax.proofs.KeepingWords.{HasGoodWords, good_words}
+use Rattle.script_syntax.proofs.KeepingWords.{good_words}
 use Rattle.script_syntax.proofs.TokenWords.{AreSpelled}
-use Rattle.script_syntax.proofs.Viable.{IsDone, derives_done}
+use Rattle.script_syntax.proofs.Viable.{derives_done}
 
 -- ---- what holds in each phase
 

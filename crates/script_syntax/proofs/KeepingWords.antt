@@ -1,5 +1,5 @@
 -- The words of whatever was taken of tokens without faults of their own are such as may stand at their places.
-use Rattle.std.proofs.Common.{◌≡◌, ℕ, ◌+◌, ◌<◌, ◌≤◌, Bool, true, false, cond, not, List, [], ◌∷◌, ◌++◌, Option, Some, None, refl, sym, ◌∙◌, ap, subst, arith, append_assoc, append-nil}
+use Rattle.std.proofs.Common.{◌≡◌, ℕ, ◌+◌, ◌≤◌, Bool, true, false, List, [], ◌∷◌, ◌++◌, Option, Some, None, refl, sym, ◌∙◌, subst, arith, append_assoc, append-nil}
 use Rattle.std.specs.Prelude.{◌||◌, ◌&&◌, ◌==◌, if◌then◌else◌, nat_le}
 use Rattle.std.specs.List.{list_all}
 use Rattle.std.proofs.lemmas.Bool.Decides.{nat_tests}
@@ -15,7 +15,6 @@ use Rattle.script_syntax.specs.declared.token.Token.{Token}
 use Rattle.script_syntax.specs.declared.token.Token.TheVariants as tokens
 use Rattle.script_syntax.specs.declared.tree.Binding.{Binding}
 use Rattle.script_syntax.specs.declared.tree.Target.{Target}
-use Rattle.script_syntax.specs.declared.tree.Target.TheVariants as targets
 use Rattle.script_syntax.specs.declared.tree.Expr.{Expr}
 use Rattle.script_syntax.specs.declared.tree.Statement.{Statement}
 use Rattle.script_syntax.specs.declared.tree.Script.{Script}
@@ -26,13 +25,12 @@ use Rattle.script_syntax.specs.declared.reading.Section.TheVariants as sections
 use Rattle.script_syntax.specs.declared.reading.Phase.{Phase}
 use Rattle.script_syntax.specs.declared.reading.Phase.TheVariants as phases
 use Rattle.script_syntax.specs.declared.reading.Reading.{Reading}
-use Rattle.script_syntax.specs.Grammar.{Derives}
-use Rattle.script_syntax.specs.Listed.{is_before_statement, is_counted, is_long, is_bad_timer, is_entry_too_many, is_statement_too_many, is_large, listed_by, listed, counts_behind, IsClean}
-use Rattle.script_syntax.specs.WellMade.{is_name, is_number, is_target, has_words, calls_in, is_well_made_binding, is_well_made_statement}
+use Rattle.script_syntax.specs.Listed.{is_before_statement, is_counted, is_long, is_bad_timer, is_entry_too_many, is_statement_too_many, is_large, listed_by, counts_behind, IsClean}
+use Rattle.script_syntax.specs.WellMade.{is_name, is_target, has_words, calls_in, is_well_made_binding, is_well_made_statement}
 use Rattle.script_syntax.specs.inside.Counting.{counted_after, counts_after}
 use Rattle.script_syntax.specs.inside.Formulas.{formula_step, whole}
 use Rattle.script_syntax.specs.inside.Readings.{new_reading, reading_step, finish, is_mark, kind_of, with_kind, with_whole, with_formula, with_statement}
-use Rattle.script_syntax.specs.inside.Runs.{Went, done, stuck, went_onward, go}
+use Rattle.script_syntax.specs.inside.Runs.{done, went_onward, go}
 use Rattle.script_syntax.proofs.RunLaws.{and_is}
 use Rattle.script_syntax.proofs.CountLaws.{counts_of-more}
 use Rattle.script_syntax.proofs.ScriptPasts.{mark_is}

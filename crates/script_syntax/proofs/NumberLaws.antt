@@ -1,15 +1,15 @@
 -- The number at the front of a text is one, and no longer one stands there.
-use Rattle.std.proofs.Common.{◌≡◌, ℕ, zero, suc, ◌+◌, ◌-◌, min, ◌<◌, ◌≤◌, Bool, true, false, cond, List, [], ◌∷◌, ◌++◌, length, take, drop, Option, Some, None, refl, sym, ◌∙◌, ap, subst, arith, append_assoc, append-nil, length-append}
-use Rattle.std.specs.Prelude.{◌==◌, ◌||◌, if◌then◌else◌}
+use Rattle.std.proofs.Common.{◌≡◌, ℕ, zero, suc, ◌+◌, ◌-◌, min, ◌<◌, ◌≤◌, Bool, true, false, List, [], ◌∷◌, ◌++◌, length, take, drop, Option, Some, None, refl, sym, ◌∙◌, ap, subst, arith, append_assoc, append-nil, length-append}
+use Rattle.std.specs.Prelude.{◌==◌, if◌then◌else◌}
 use Rattle.std.specs.Char.{is_ascii_digit}
-use Rattle.std.specs.List.{list_all, prefix_len}
+use Rattle.std.specs.List.{list_all}
 use Rattle.std.proofs.lemmas.List.{take-append-drop, length-take-le}
 use Rattle.std.proofs.lemmas.List.Folds.{length-prefix_len}
 use Rattle.std.proofs.lemmas.List.Sums.{prefix_len-le-length}
-use Rattle.std.proofs.Math.Seq.{take-append_seam, drop-append_seam}
+use Rattle.std.proofs.Math.Seq.{drop-append_seam}
 use Rattle.std.proofs.lemmas.Bool.Decides.{nat_tests}
-use Rattle.text_base.specs.Bytes.{point, plus, hyphen, small_e, capital_e}
-use Rattle.script_syntax.specs.Spelling.{PowerForm, NumberForm, is_sign, is_exponent_letter, sign_text, IsSignForm, IsPowerForm, power_text, IsPowerPart, fraction_bytes, fraction_of, number_text, IsNumberForm, IsNumber}
+use Rattle.text_base.specs.Bytes.{point}
+use Rattle.script_syntax.specs.Spelling.{PowerForm, NumberForm, is_sign, is_exponent_letter, sign_text, IsSignForm, IsPowerForm, power_text, IsPowerPart, fraction_bytes, fraction_of, number_text, IsNumberForm}
 use Rattle.script_syntax.specs.inside.Scanning.{digits_len, with_point, after_digits, mantissa_len, sign_len, with_digits, power_len, number_len}
 use Rattle.script_syntax.proofs.RunLaws.{both, cond_true, cond_false, prefix_len-all, list_all-run, list_all-front}
 

@@ -1,5 +1,5 @@
 -- Forms of any rule of expressions, and how a form of a tighter rule is one of a looser rule.
-use Rattle.std.proofs.Common.{◌≡◌, ◌≤◌, ℕ, List, [], ◌∷◌, refl, arith}
+use Rattle.std.proofs.Common.{◌≡◌, ◌≤◌, ℕ, List, [], refl, arith}
 use Rattle.script_syntax.specs.declared.token.Token.{Token}
 use Rattle.script_syntax.specs.declared.tree.Expr.{Expr}
 use Rattle.script_syntax.specs.Grammar.{ExprForm, expr_one, expr_on, expr_tree, XorForm, xor_one, xor_on, xor_tree, AndForm, and_one, and_on, and_tree, NotForm, not_comp, not_on, not_tree, CompForm, comp_one, comp_on, comp_tree, SumForm, sum_one, sum_on, sum_tree, ProdForm, prod_one, prod_on, prod_tree, UnaryForm, unary_prim, unary_on, unary_tree, PrimForm, number, prim_on, prim_tree}

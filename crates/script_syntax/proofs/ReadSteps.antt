@@ -1,5 +1,5 @@
 -- Steps of the reader.
-use Rattle.std.proofs.Common.{◌≡◌, ℕ, ◌+◌, ◌-◌, ◌<◌, ◌≤◌, Bool, true, false, List, [], ◌∷◌, Option, Some, None, Result, Ok, Err, refl, sym, ◌∙◌, ap, subst, arith}
+use Rattle.std.proofs.Common.{◌≡◌, ℕ, ◌+◌, ◌-◌, ◌<◌, ◌≤◌, Bool, true, false, List, [], Option, Some, None, Result, Ok, Err, sym, ◌∙◌, ap, subst, arith}
 use Rattle.std.specs.Prelude.{IsErrAnd, if◌then◌else◌}
 use Rattle.script_syntax.specs.declared.fault.ReadScript.{ReadScript}
 use Rattle.script_syntax.specs.declared.fault.ReadScript.TheVariants as errors
@@ -16,8 +16,8 @@ use Rattle.script_syntax.specs.Answers.{Reads}
 use Rattle.script_syntax.specs.Faults.{place_after_token}
 use Rattle.script_syntax.specs.Listed.{is_semicolon, is_section, is_timer, is_before_statement, is_counted, counts_behind}
 use Rattle.script_syntax.specs.Places.{first_place}
-use Rattle.script_syntax.specs.Tokens.{Ending, Whole, Byte, Scanned}
-use Rattle.script_syntax.specs.inside.Counting.{IsCountBelow, AreBelow, one_more, timer_after, statements_after, counted_after, counts_after}
+use Rattle.script_syntax.specs.Tokens.{Ending, Scanned}
+use Rattle.script_syntax.specs.inside.Counting.{IsCountBelow, AreBelow, one_more, timer_after, statements_after, counts_after}
 use Rattle.script_syntax.specs.inside.Reading.{at_end, step_at, and_then, read_from, read_scanned, tree_of}
 use Rattle.script_syntax.specs.inside.Readings.{new_reading}
 use Rattle.script_syntax.specs.inside.Scanner.{scan_of}

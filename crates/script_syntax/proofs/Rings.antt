@@ -1,9 +1,9 @@
 -- What is open around an operand, with its forms: the tokens that were taken, and the frames that were made of them.
-use Rattle.std.proofs.Common.{◌≡◌, ◌<◌, ◌≤◌, ◌++◌, ℕ, Bool, true, false, List, [], ◌∷◌, Option, Some, None, refl, sym, ◌∙◌, ap, arith, cond}
-use Rattle.std.specs.Prelude.{codes, nat_le}
+use Rattle.std.proofs.Common.{◌≡◌, ◌<◌, ◌≤◌, ℕ, List, [], ◌∷◌, refl, sym, ap, arith}
+use Rattle.std.specs.Prelude.{codes}
 use Rattle.script_syntax.specs.declared.token.Comparison.{Comparison}
 use Rattle.script_syntax.specs.declared.token.Sign.{Sign}
-use Rattle.script_syntax.specs.declared.token.Sign.TheVariants.{Plus, Minus}
+use Rattle.script_syntax.specs.declared.token.Sign.TheVariants.{Minus}
 use Rattle.script_syntax.specs.declared.token.Factor.{Factor}
 use Rattle.script_syntax.specs.declared.token.Operator.{Operator}
 use Rattle.script_syntax.specs.declared.token.Operator.TheVariants as operators
@@ -11,14 +11,11 @@ use Rattle.script_syntax.specs.declared.token.Key.TheVariants as keys
 use Rattle.script_syntax.specs.declared.token.Mark.TheVariants as marks
 use Rattle.script_syntax.specs.declared.token.Token.{Token}
 use Rattle.script_syntax.specs.declared.token.Token.TheVariants as tokens
-use Rattle.script_syntax.specs.declared.tree.Expr.{Expr}
-use Rattle.script_syntax.specs.declared.tree.Expr.TheVariants as exprs
 use Rattle.script_syntax.specs.declared.frames.Frame.{Frame}
 use Rattle.script_syntax.specs.declared.frames.Frame.TheVariants as frames
-use Rattle.script_syntax.specs.Grammar.{Part, by_word, by_comma, then_token, else_token, ExprForm, expr_more, expr_on, expr_tree, XorForm, xor_more, xor_on, xor_tree, AndForm, and_more, and_on, and_tree, NotForm, negated, not_on, not_tree, CompForm, comp_two, comp_on, comp_tree, SumForm, sum_more, sum_on, sum_tree, ProdForm, prod_more, prod_on, prod_tree, UnaryForm, negative, unary_on, unary_tree, PrimForm, number, name, called, call, brackets, choice, choice_else, prim_on, prim_tree, ArgsForm, args_one, args_more, args_on, args_trees, operator_word, call_joined, call_one}
-use Rattle.script_syntax.specs.inside.Levels.{level_of, right_level}
-use Rattle.script_syntax.specs.inside.Formulas.{frame_level, frame_hole, hole, top_level, closed, close}
-use Rattle.script_syntax.proofs.Pieces.{Piece, of_expr, of_xor, of_and, of_not, of_comp, of_sum, of_prod, of_unary, of_prim, piece_level, piece_on, piece_tree, as_expr, as_xor, as_and, as_not, as_sum, as_prod, as_unary, same_expr, same_xor, same_and, same_not, same_sum, same_prod, same_unary, IsSame}
+use Rattle.script_syntax.specs.Grammar.{Part, then_token, else_token, ExprForm, expr_more, expr_on, expr_tree, XorForm, xor_more, xor_on, xor_tree, AndForm, and_more, and_on, and_tree, negated, comp_two, SumForm, sum_more, sum_on, sum_tree, ProdForm, prod_more, prod_on, prod_tree, negative, ArgsForm, args_on, args_trees, call_joined, call_one}
+use Rattle.script_syntax.specs.inside.Formulas.{frame_level, frame_hole, hole, closed}
+use Rattle.script_syntax.proofs.Pieces.{Piece, of_expr, of_xor, of_and, of_not, of_comp, of_sum, of_prod, of_unary, piece_level, piece_on, piece_tree, as_xor, as_and, as_not, as_sum, as_prod, as_unary, same_xor, same_and, same_not, same_sum, same_prod, same_unary}
 
 -- a frame with the forms in it
 pub data Ring : Type 0 where

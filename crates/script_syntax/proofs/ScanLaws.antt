@@ -1,7 +1,7 @@
 -- A text has one list of tokens, which the scanner finds.
-use Rattle.std.proofs.Common.{◌≡◌, ◌≢◌, ℕ, zero, suc, ◌+◌, ◌-◌, ◌<◌, ◌≤◌, Bool, true, false, cond, not, List, [], ◌∷◌, ◌++◌, length, take, drop, Option, Some, None, refl, sym, ◌∙◌, ap, subst, arith, append_assoc, append-nil, length-append}
+use Rattle.std.proofs.Common.{◌≡◌, ◌≢◌, ℕ, zero, suc, ◌+◌, ◌-◌, ◌<◌, ◌≤◌, Bool, true, false, cond, not, List, [], ◌∷◌, ◌++◌, length, take, drop, Option, Some, None, refl, sym, ◌∙◌, ap, subst, arith, length-append}
 use Rattle.std.specs.Prelude.{◌==◌, if◌then◌else◌}
-use Rattle.std.specs.List.{list_all, prefix_len}
+use Rattle.std.specs.List.{list_all}
 use Rattle.std.proofs.lemmas.List.{take-append-drop, length-take-le}
 use Rattle.std.proofs.lemmas.List.Sums.{prefix_len-le-length}
 use Rattle.std.proofs.Math.Seq.{take-append_seam, drop-append_seam}
@@ -17,11 +17,11 @@ use Rattle.script_syntax.specs.declared.scanner.Placed.{Placed}
 use Rattle.script_syntax.specs.declared.scanner.Scanner.{Scanner}
 use Rattle.script_syntax.specs.Places.{first_place, after_byte, after_bytes}
 use Rattle.script_syntax.specs.Spelling.{Spells, mode_after}
-use Rattle.script_syntax.specs.Tokens.{Ending, Whole, Byte, Scanned, hash, Gap, no_gap, blank, comment, gap_on, EndsComment, is_comment_byte, IsGap, IsLongest, IsNext, IsBlankText, IsBadByte, Ends, AreTokensFrom, AreScriptTokens}
-use Rattle.script_syntax.specs.inside.Scanning.{comment_len, scanned, with_token, at_token, at_front, scan, token_at}
+use Rattle.script_syntax.specs.Tokens.{Ending, Whole, Byte, Scanned, hash, Gap, no_gap, blank, comment, gap_on, EndsComment, is_comment_byte, IsGap, IsLongest, IsNext, IsBadByte, Ends, AreTokensFrom, AreScriptTokens}
+use Rattle.script_syntax.specs.inside.Scanning.{comment_len, scanned, with_token, at_token, scan, token_at}
 use Rattle.script_syntax.specs.inside.Scanner.{gap_len, scan_of}
 use Rattle.script_syntax.proofs.RunLaws.{cond_true, cond_false, prefix_len-all, list_all-run}
-use Rattle.script_syntax.proofs.SpellingLaws.{IsAtLeast, token_at_least, IsFoundAt, token_sound, spells_one, blank_none, hash_none, nothing_empty, no_token_empty}
+use Rattle.script_syntax.proofs.SpellingLaws.{token_at_least, token_sound, spells_one, blank_none, hash_none, nothing_empty, no_token_empty}
 
 -- ---- places
 

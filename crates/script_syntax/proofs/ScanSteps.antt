@@ -1,9 +1,8 @@
 -- Steps of the scanner.
-use Rattle.std.proofs.Common.{◌≡◌, ◌+◌, ℕ, Bool, true, false, List, [], ◌∷◌, length, take, take_while, Option, Some, None, refl, sym, ◌∙◌, ap, arith, cond, suc}
+use Rattle.std.proofs.Common.{◌≡◌, ◌+◌, ℕ, Bool, true, false, List, ◌∷◌, take, take_while, Some, refl, sym, ◌∙◌, ap, arith, cond, suc}
 use Rattle.std.specs.List.{prefix_len}
 use Rattle.text_base.specs.Bytes.{is_letter, is_word_byte}
 use Rattle.script_syntax.specs.declared.token.Token.{Token}
-use Rattle.script_syntax.specs.declared.lexer.Found.{Found}
 use Rattle.script_syntax.specs.Spelling.{word_token}
 use Rattle.script_syntax.specs.inside.Scanning.{plain_at, found, number_of_len, number_len}
 

@@ -1,6 +1,6 @@
 -- What was taken of a script, with its forms: each step takes one token more, and each can be completed.
-use Rattle.std.proofs.Common.{◌≡◌, ◌<◌, ◌≤◌, ◌++◌, ℕ, Bool, true, false, List, [], ◌∷◌, Option, Some, None, refl, sym, ◌∙◌, ap, arith, cond, append_assoc}
-use Rattle.std.specs.Prelude.{codes, map, unwrap_or, if◌then◌else◌}
+use Rattle.std.proofs.Common.{◌≡◌, ◌++◌, ℕ, Bool, true, false, List, [], ◌∷◌, Option, Some, None, refl, sym, ◌∙◌, ap}
+use Rattle.std.specs.Prelude.{codes, unwrap_or, if◌then◌else◌}
 use Rattle.std.specs.Str.{bytes_eq}
 use Rattle.std.proofs.lemmas.Slice.Eq.{bytes_eq-Decides}
 use Rattle.text_base.proofs.Callers.{some_is}
@@ -18,19 +18,16 @@ use Rattle.script_syntax.specs.declared.tree.Expr.{Expr}
 use Rattle.script_syntax.specs.declared.tree.Statement.{Statement}
 use Rattle.script_syntax.specs.declared.tree.Script.{Script}
 use Rattle.script_syntax.specs.declared.formula.Formula.{Formula}
-use Rattle.script_syntax.specs.declared.formula.Operand.TheVariants as operands
 use Rattle.script_syntax.specs.declared.reading.Section.{Section}
 use Rattle.script_syntax.specs.declared.reading.Section.TheVariants as sections
-use Rattle.script_syntax.specs.declared.reading.Phase.{Phase}
 use Rattle.script_syntax.specs.declared.reading.Phase.TheVariants as phases
 use Rattle.script_syntax.specs.declared.reading.Reading.{Reading}
 use Rattle.script_syntax.specs.Numbers.{steps_of}
-use Rattle.script_syntax.specs.Grammar.{ExprForm, expr_on, expr_tree, PrimForm, number, kind_word, target_token, kind_on, entry_on, entries_on, StatForm, report_on, stat_on, stats_on, stat_tree, stats_trees, SectionsForm, static, timed, ScriptForm, binding_on, area_on, timer_on, initial_on, dynamic_on, sections_on, script_on, script_tree}
+use Rattle.script_syntax.specs.Grammar.{kind_word, target_token, entry_on, entries_on, StatForm, report_on, stat_on, stats_on, stat_tree, stats_trees, static, timed, ScriptForm, binding_on, area_on, timer_on, initial_on, dynamic_on, script_on, script_tree}
 use Rattle.script_syntax.specs.inside.Formulas.{formula_step, whole}
-use Rattle.script_syntax.specs.inside.Readings.{reading_step, finish, is_mark, same_mark, kind_of, with_kind, add_entry, add_statement, with_statement, with_whole, with_formula, now}
-use Rattle.script_syntax.proofs.Pieces.{as_expr, of_prim}
+use Rattle.script_syntax.specs.inside.Readings.{reading_step, finish, is_mark, same_mark, kind_of, with_kind, add_entry, add_statement, with_statement, with_whole, with_formula}
 use Rattle.script_syntax.proofs.Rings.{AreTight}
-use Rattle.script_syntax.proofs.FormulaPasts.{FormulaPast, due, formula_of, formula_on, TakesMore, takes_token, IsWhole, whole_is}
+use Rattle.script_syntax.proofs.FormulaPasts.{FormulaPast, due, formula_of, formula_on, takes_token, whole_is}
 
 -- what stands before the sections
 pub record Head : Type 0 where

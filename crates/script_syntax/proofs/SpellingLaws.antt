@@ -1,11 +1,11 @@
 -- The token at the front of a text is one, no longer one stands there, and bytes are one token at most.
-use Rattle.std.proofs.Common.{◌≡◌, ℕ, zero, suc, ◌+◌, ◌<◌, ◌≤◌, Bool, true, false, cond, not, List, [], ◌∷◌, ◌++◌, length, take, drop, take_while, Option, Some, None, refl, sym, ◌∙◌, ap, subst, arith, inl, inr, append_assoc, length-append}
-use Rattle.std.specs.Prelude.{◌==◌, ◌||◌, ◌&&◌, if◌then◌else◌, ◌⊎◌}
+use Rattle.std.proofs.Common.{◌≡◌, ℕ, zero, suc, ◌+◌, ◌<◌, ◌≤◌, Bool, true, false, not, List, [], ◌∷◌, ◌++◌, length, take, drop, take_while, Option, Some, None, refl, sym, ◌∙◌, ap, subst, arith, inl, inr}
+use Rattle.std.specs.Prelude.{◌==◌, ◌||◌, if◌then◌else◌}
 use Rattle.std.specs.Char.{is_ascii_digit}
 use Rattle.std.specs.List.{list_all, prefix_len}
 use Rattle.std.proofs.lemmas.List.{take-append-drop}
 use Rattle.std.proofs.lemmas.List.Folds.{length-prefix_len}
-use Rattle.std.proofs.Math.Seq.{take-append_seam, drop-append_seam}
+use Rattle.std.proofs.Math.Seq.{take-append_seam}
 use Rattle.std.proofs.lemmas.Bool.Decides.{nat_tests}
 use Rattle.text_base.specs.Bytes.{is_blank, is_letter, is_word_byte, is_file_byte, point}
 use Rattle.text_base.proofs.Callers.{some_is, bool_cases, option_cases}
@@ -14,7 +14,7 @@ use Rattle.script_syntax.specs.declared.token.Token.TheVariants as tokens
 use Rattle.script_syntax.specs.declared.place.Mode.{Mode}
 use Rattle.script_syntax.specs.declared.place.Mode.TheVariants.{Bindings, BoundFile, AreaFile, Sections}
 use Rattle.script_syntax.specs.declared.lexer.Found.{Found}
-use Rattle.script_syntax.specs.Spelling.{is_word_text, word_token, NumberForm, number_text, fraction_bytes, fraction_of, power_text, IsNumberForm, IsNumber, beside, one_byte_symbols, one_byte_symbol, equal_symbols, two_byte_symbol, symbol_token, is_run, begins_run, run_token, SpellsPlain, SpellsFile, Spells}
+use Rattle.script_syntax.specs.Spelling.{word_token, number_text, fraction_bytes, fraction_of, power_text, IsNumber, beside, one_byte_symbols, one_byte_symbol, equal_symbols, two_byte_symbol, symbol_token, is_run, begins_run, run_token, SpellsPlain, SpellsFile, Spells}
 use Rattle.script_syntax.specs.inside.Scanning.{digits_len, after_digits, with_point, mantissa_len, number_len, found, symbol_of_len, or_else, symbol_at, number_of_len, plain_at, file_at, token_at}
 use Rattle.script_syntax.proofs.RunLaws.{both, and_is, cond_true, cond_false, prefix_len-all, list_all-run}
 use Rattle.script_syntax.proofs.NumberLaws.{number_longest, number_sound}

@@ -4,10 +4,7 @@ use Rattle.std.specs.Prelude.{codes, nat_le, nat_lt, unwrap_or, if◌then◌else
 use Rattle.std.proofs.lemmas.Bool.Decides.{nat_tests}
 use Rattle.cell_values.specs.declared.kind.Kind.{Kind}
 use Rattle.cell_values.specs.declared.kind.Kind.TheVariants.{Boolean, Nominal, Ordinal, Scalar, Directional, Ldd}
-use Rattle.script_syntax.specs.declared.token.Comparison.{Comparison}
-use Rattle.script_syntax.specs.declared.token.Sign.{Sign}
-use Rattle.script_syntax.specs.declared.token.Sign.TheVariants.{Plus, Minus}
-use Rattle.script_syntax.specs.declared.token.Factor.{Factor}
+use Rattle.script_syntax.specs.declared.token.Sign.TheVariants.{Minus}
 use Rattle.script_syntax.specs.declared.token.Operator.{Operator}
 use Rattle.script_syntax.specs.declared.token.Operator.TheVariants as operators
 use Rattle.script_syntax.specs.declared.token.Key.TheVariants as keys
@@ -27,15 +24,14 @@ use Rattle.script_syntax.specs.declared.formula.Operand.TheVariants as operands
 use Rattle.script_syntax.specs.declared.formula.Formula.{Formula}
 use Rattle.script_syntax.specs.declared.reading.Section.{Section}
 use Rattle.script_syntax.specs.declared.reading.Section.TheVariants as sections
-use Rattle.script_syntax.specs.declared.reading.Phase.{Phase}
 use Rattle.script_syntax.specs.declared.reading.Phase.TheVariants as phases
 use Rattle.script_syntax.specs.declared.reading.Reading.{Reading}
 use Rattle.script_syntax.specs.Numbers.{steps_of}
-use Rattle.script_syntax.specs.Grammar.{Part, by_word, by_comma, then_token, else_token, ExprForm, expr_one, expr_more, expr_on, expr_tree, XorForm, xor_one, xor_more, xor_on, xor_tree, AndForm, and_one, and_more, and_on, and_tree, NotForm, negated, not_comp, not_on, not_tree, CompForm, comp_one, comp_two, comp_on, comp_tree, SumForm, sum_one, sum_more, sum_on, sum_tree, ProdForm, prod_one, prod_more, prod_on, prod_tree, UnaryForm, negative, unary_prim, unary_on, unary_tree, PrimForm, number, name, called, call, brackets, choice, choice_else, prim_on, prim_tree, ArgsForm, args_one, args_more, args_on, args_trees, kind_word, target_token, kind_on, entry_on, entries_on, StatForm, report_on, stat_on, stats_on, stat_tree, stats_trees, SectionsForm, static, timed, ScriptForm, binding_on, area_on, timer_on, initial_on, dynamic_on, sections_on, script_on, script_tree}
+use Rattle.script_syntax.specs.Grammar.{Part, by_word, by_comma, then_token, else_token, ExprForm, expr_one, expr_more, expr_on, expr_tree, XorForm, xor_one, xor_more, xor_on, xor_tree, AndForm, and_one, and_more, and_on, and_tree, NotForm, negated, not_comp, not_on, not_tree, CompForm, comp_one, comp_two, comp_on, comp_tree, SumForm, sum_one, sum_more, sum_on, sum_tree, ProdForm, prod_one, prod_more, prod_on, prod_tree, UnaryForm, negative, unary_prim, unary_on, unary_tree, PrimForm, number, name, called, call, brackets, choice, choice_else, prim_on, prim_tree, ArgsForm, args_one, args_more, args_on, args_trees, kind_word, target_token, kind_on, entry_on, entries_on, StatForm, report_on, stat_on, stats_on, stat_tree, stats_trees, SectionsForm, static, timed, ScriptForm, binding_on, initial_on, sections_on, script_on, script_tree}
 use Rattle.script_syntax.specs.inside.Levels.{level_of, left_level}
 use Rattle.script_syntax.specs.inside.Formulas.{frame_level, frame_hole, hole, closed, close, operate, valued, alone_of, next_part, then_part, otherwise_part, close_bracket, is_close}
 use Rattle.script_syntax.specs.inside.Readings.{new_reading, reading_step, finish, with_formula, with_whole, with_statement}
-use Rattle.script_syntax.specs.inside.Runs.{Went, done, stuck, went_onward, go}
+use Rattle.script_syntax.specs.inside.Runs.{done, went_onward, go}
 
 -- where an expression stands
 record Site : Type 0 where

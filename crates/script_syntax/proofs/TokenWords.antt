@@ -1,12 +1,12 @@
 -- The words of tokens that stand in a text.
-use Rattle.std.proofs.Common.{◌≡◌, ℕ, zero, suc, ◌+◌, ◌<◌, ◌≤◌, Bool, true, false, cond, not, List, [], ◌∷◌, ◌++◌, length, Option, Some, None, refl, sym, ◌∙◌, ap, subst, arith, inl, inr, append_assoc, append-nil, length-append}
-use Rattle.std.specs.Prelude.{◌⊎◌, ◌||◌, ◌&&◌, ◌==◌, if◌then◌else◌, is_some, codes, nat_lt, nat_le, IsTrue, pos, ℤ}
+use Rattle.std.proofs.Common.{◌≡◌, ℕ, ◌+◌, ◌<◌, ◌≤◌, Bool, true, false, not, List, [], ◌∷◌, ◌++◌, length, Option, Some, None, refl, sym, ◌∙◌, ap, subst, arith, inl, inr}
+use Rattle.std.specs.Prelude.{◌⊎◌, ◌||◌, ◌&&◌, ◌==◌, if◌then◌else◌, is_some, codes, nat_le, pos, ℤ}
 use Rattle.std.specs.Str.{bytes_eq}
 use Rattle.std.specs.Str.Parse.{digits_value}
 use Rattle.std.specs.Char.{is_ascii_digit}
 use Rattle.std.specs.List.{list_all}
 use Rattle.std.proofs.lemmas.Bool.Decides.{nat_tests}
-use Rattle.text_base.specs.Bytes.{is_file_byte, plus, hyphen, small_e, capital_e}
+use Rattle.text_base.specs.Bytes.{is_file_byte, plus, small_e}
 use Rattle.text_base.specs.Words.{begins_word, is_file_word}
 use Rattle.text_base.proofs.Callers.{some_is}
 use Rattle.cell_values.specs.Decimal as decimals
@@ -21,7 +21,7 @@ use Rattle.script_syntax.specs.declared.place.Mode.TheVariants.{Bindings, BoundF
 use Rattle.script_syntax.specs.declared.place.Place.{Place}
 use Rattle.script_syntax.specs.declared.scanner.Placed.{Placed}
 use Rattle.script_syntax.specs.Places.{after_bytes}
-use Rattle.script_syntax.specs.Spelling.{is_word_text, key_spelled, operator_spelled, operator_or_name, key_or_other, word_token, PowerForm, NumberForm, is_sign, is_exponent_letter, sign_text, power_text, fraction_bytes, fraction_of, number_text, IsSignForm, IsPowerForm, IsPowerPart, IsNumberForm, IsNumber, beside, one_byte_symbols, equal_symbols, two_byte_symbol, symbol_token, is_run, area_token, bound_token, run_token, SpellsPlain, SpellsFile, Spells, mode_after}
+use Rattle.script_syntax.specs.Spelling.{is_word_text, key_spelled, operator_spelled, operator_or_name, key_or_other, word_token, PowerForm, NumberForm, is_sign, is_exponent_letter, sign_text, power_text, fraction_bytes, fraction_of, number_text, IsSignForm, IsPowerPart, IsNumberForm, IsNumber, beside, one_byte_symbols, equal_symbols, symbol_token, is_run, area_token, run_token, SpellsPlain, SpellsFile, Spells, mode_after}
 use Rattle.script_syntax.specs.Tokens.{Ending, AreTokensFrom}
 use Rattle.script_syntax.specs.Faults.{tokens_of}
 use Rattle.script_syntax.specs.Listed.{is_long_word, is_long}

@@ -1,14 +1,14 @@
 -- Tokens begin a script exactly where all of them are taken, and are one exactly where the reading can end there.
-use Rattle.std.proofs.Common.{◌≡◌, List, [], ◌∷◌, ◌++◌, Option, Some, None, refl, sym, ◌∙◌, ap, append_assoc, append-nil}
+use Rattle.std.proofs.Common.{◌≡◌, List, [], ◌∷◌, ◌++◌, Option, Some, None, refl, sym, ◌∙◌, ap, append-nil}
 use Rattle.text_base.proofs.Callers.{some_is}
 use Rattle.script_syntax.specs.declared.token.Token.{Token}
 use Rattle.script_syntax.specs.declared.tree.Script.{Script}
 use Rattle.script_syntax.specs.declared.reading.Reading.{Reading}
-use Rattle.script_syntax.specs.Grammar.{ScriptForm, script_on, script_tree, Derives, IsViable}
+use Rattle.script_syntax.specs.Grammar.{script_tree, Derives, IsViable}
 use Rattle.script_syntax.specs.inside.Readings.{new_reading, reading_step, finish}
 use Rattle.script_syntax.specs.inside.Runs.{Went, done, stuck, went_onward, go}
-use Rattle.script_syntax.proofs.ScriptPasts.{Past, at_start, past_on, reading_of, IsGood, Advances, advances, Finishes, finishes}
-use Rattle.script_syntax.proofs.Completing.{IsCompletable, completable}
+use Rattle.script_syntax.proofs.ScriptPasts.{Past, at_start, past_on, reading_of, IsGood, advances, finishes}
+use Rattle.script_syntax.proofs.Completing.{completable}
 use Rattle.script_syntax.proofs.Taking.{take_script, finish_script}
 
 -- what was taken, behind more tokens

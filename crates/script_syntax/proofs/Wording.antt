@@ -1,14 +1,10 @@
 -- The words of a tree are such as may stand at their places, and no statement has too many calls.
-use Rattle.std.proofs.Common.{◌≡◌, ℕ, zero, suc, ◌+◌, ◌<◌, ◌≤◌, Bool, true, false, cond, not, List, [], ◌∷◌, ◌++◌, length, map, Option, Some, None, refl, sym, ◌∙◌, ap, subst, arith, append_assoc, append-nil}
-use Rattle.std.specs.Prelude.{◌||◌, ◌&&◌, ◌==◌, if◌then◌else◌, codes, nat_le, nat_lt}
+use Rattle.std.proofs.Common.{◌≡◌, ℕ, ◌+◌, ◌≤◌, Bool, true, false, not, List, [], ◌∷◌, ◌++◌, Some, None, refl, sym, ◌∙◌, ap, subst, arith}
+use Rattle.std.specs.Prelude.{◌||◌, ◌&&◌, if◌then◌else◌, codes, nat_le, nat_lt}
 use Rattle.std.specs.List.{list_all, sum_by}
-use Rattle.std.proofs.lemmas.Bool.Decides.{nat_tests}
 use Rattle.std.proofs.lemmas.List.Sums.{sum-map, sum_by-cons, sum_by_push}
 use Rattle.std.proofs.lemmas.List.Folds.{list_all-map, list_all-append}
-use Rattle.text_base.specs.Words.{is_file_word}
 use Rattle.text_base.proofs.Callers.{some_is}
-use Rattle.cell_values.specs.declared.kind.Kind.{Kind}
-use Rattle.script_syntax.specs.declared.fault.SyntaxKind.TheVariants as kinds
 use Rattle.script_syntax.specs.declared.token.Comparison.TheVariants as compares
 use Rattle.script_syntax.specs.declared.token.Sign.TheVariants.{Plus, Minus}
 use Rattle.script_syntax.specs.declared.token.Factor.TheVariants.{Times, Over, WholeOver, Modulo}
@@ -20,26 +16,22 @@ use Rattle.script_syntax.specs.declared.token.Mark.TheVariants as marks
 use Rattle.script_syntax.specs.declared.token.Token.{Token}
 use Rattle.script_syntax.specs.declared.token.Token.TheVariants as tokens
 use Rattle.script_syntax.specs.declared.tree.Binding.{Binding}
-use Rattle.script_syntax.specs.declared.tree.Target.{Target}
 use Rattle.script_syntax.specs.declared.tree.Expr.{Expr}
 use Rattle.script_syntax.specs.declared.tree.Expr.TheVariants as exprs
 use Rattle.script_syntax.specs.declared.tree.Expr.TheVariants.{rolls-Call, rolls-Name, rolls-Number}
 use Rattle.script_syntax.specs.declared.tree.Expr.TheFolds.{fold-roll-Expr}
 use Rattle.script_syntax.specs.declared.tree.Expr.TheOpen.{Expr-F}
-use Rattle.script_syntax.specs.declared.tree.Statement.{Statement}
-use Rattle.script_syntax.specs.declared.tree.Script.{Script}
 use Rattle.script_syntax.specs.declared.counts.Counts.{Counts}
 use Rattle.script_syntax.specs.declared.frames.Frame.{Frame}
 use Rattle.script_syntax.specs.declared.frames.Frame.TheVariants as frames
 use Rattle.script_syntax.specs.declared.formula.Operand.{Operand}
 use Rattle.script_syntax.specs.declared.formula.Operand.TheVariants as operands
 use Rattle.script_syntax.specs.declared.formula.Formula.{Formula}
-use Rattle.script_syntax.specs.Grammar.{operator_word, call_joined, call_one, call_two, call_three}
-use Rattle.script_syntax.specs.Listed.{is_counted, is_large}
+use Rattle.script_syntax.specs.Grammar.{operator_word, call_one, call_two, call_three}
 use Rattle.script_syntax.specs.WellMade.{is_name, is_number, is_call_word, words_level, has_words, calls_level, calls_in}
 use Rattle.script_syntax.specs.inside.Counting.{counted_after}
 use Rattle.script_syntax.specs.inside.Levels.{level_of, left_level}
-use Rattle.script_syntax.specs.inside.Formulas.{frame_level, hole, closed, close, formula_step, after_value, after_due, after_name, after_called, after_if, operate, opened, valued, close_in, close_bracket, next_in, next_part, then_in, then_part, otherwise_in, otherwise_part, is_open, is_close, whole, whole_operand, alone_of, alone_in}
+use Rattle.script_syntax.specs.inside.Formulas.{frame_level, hole, closed, close, formula_step, after_value, after_due, opened, valued, close_in, next_in, then_in, otherwise_in, is_open, is_close, whole, alone_in}
 use Rattle.script_syntax.proofs.RunLaws.{both, and_is}
 use Rattle.script_syntax.proofs.TokenWords.{IsGoodToken}
 

@@ -1,5 +1,5 @@
 -- What a script text is, and the first fault of a text that is none.
-use Rattle.std.specs.Prelude.{◌≡◌, ℕ, ◌+◌, List, [], ◌∷◌, ◌++◌, map, Option, Some, None, Result, Ok, Err}
+use Rattle.std.specs.Prelude.{◌≡◌, ℕ, ◌+◌, List, [], ◌∷◌, ◌++◌, map, Some, None, Result, Ok, Err}
 use Rattle.script_syntax.specs.declared.fault.SyntaxKind.{SyntaxKind}
 use Rattle.script_syntax.specs.declared.fault.SyntaxKind.TheVariants as kinds
 use Rattle.script_syntax.specs.declared.fault.SyntaxFault.{SyntaxFault}

@@ -1,8 +1,6 @@
 -- The grammar of scripts. Each rule is one data type and each way to write it one constructor, so that a form is a
 -- derivation. A form has its tokens, written in front of a rest, and its tree.
 use Rattle.std.specs.Prelude.{◌≡◌, ℕ, Bool, true, false, List, [], ◌∷◌, ◌++◌, map, codes, Option, Some, None, unwrap_or}
-use Rattle.std.specs.Option.{option_map}
-use Rattle.std.specs.Str.Parse.{digits_value}
 use Rattle.cell_values.specs.declared.kind.Kind.{Kind}
 use Rattle.cell_values.specs.declared.kind.Kind.TheVariants.{Boolean, Nominal, Ordinal, Scalar, Directional, Ldd}
 use Rattle.script_syntax.specs.declared.token.Comparison.{Comparison}

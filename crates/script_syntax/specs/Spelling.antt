@@ -1,10 +1,10 @@
 -- How tokens are spelled: which bytes are which token, in each sort of place.
 use Rattle.std.specs.Prelude.{◌≡◌, ◌⊎◌, ◌+◌, ◌<◌, ◌≤◌, ℕ, Bool, true, false, ◌||◌, ◌&&◌, ◌==◌, if◌then◌else◌}
-use Rattle.std.specs.Prelude.{List, [], ◌∷◌, ◌++◌, length, codes, is_some, Option, Some, None, IsTrue}
+use Rattle.std.specs.Prelude.{List, [], ◌∷◌, ◌++◌, length, codes, is_some, Option, Some, None}
 use Rattle.std.specs.Char.{is_ascii_digit}
 use Rattle.std.specs.List.{list_all}
 use Rattle.std.specs.Str.{bytes_eq}
-use Rattle.text_base.specs.Bytes.{is_blank, is_letter, is_word_byte, is_file_byte, point, plus, hyphen, small_e, capital_e}
+use Rattle.text_base.specs.Bytes.{is_letter, is_word_byte, is_file_byte, point, plus, hyphen, small_e, capital_e}
 use Rattle.text_base.specs.Words.{begins_word}
 use Rattle.cell_values.specs.inside.Reading.{decimal_of}
 use Rattle.script_syntax.specs.declared.token.Comparison.TheVariants as compares

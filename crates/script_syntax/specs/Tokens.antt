@@ -1,5 +1,5 @@
 -- The tokens of a script text. Between them stand blanks and comments, and each is the longest that fits at its place.
-use Rattle.std.specs.Prelude.{◌≡◌, ◌<◌, ◌≤◌, ℕ, Bool, true, false, not, ◌==◌, List, [], ◌∷◌, ◌++◌, length}
+use Rattle.std.specs.Prelude.{◌≡◌, ◌≤◌, ℕ, Bool, true, false, not, ◌==◌, List, [], ◌∷◌, ◌++◌, length}
 use Rattle.std.specs.List.{list_all}
 use Rattle.text_base.specs.Bytes.{is_blank, line_feed}
 use Rattle.script_syntax.specs.declared.token.Token.{Token}

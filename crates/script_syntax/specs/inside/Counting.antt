@@ -1,5 +1,5 @@
 -- What is counted with one more token.
-use Rattle.std.specs.Prelude.{◌≡◌, ℕ, ◌+◌, ◌<◌, Bool, true, false, ◌||◌, if◌then◌else◌, Option, Some, None}
+use Rattle.std.specs.Prelude.{ℕ, ◌+◌, ◌<◌, ◌||◌, if◌then◌else◌, Option, Some, None}
 use Rattle.script_syntax.specs.declared.token.Token.{Token}
 use Rattle.script_syntax.specs.declared.counts.Counts.{Counts}
 use Rattle.script_syntax.specs.Listed.{is_semicolon, is_section, is_areamap, is_timer, is_before_statement, is_counted}

@@ -1,5 +1,5 @@
 -- An expression that is read token by token: what is open around the next operand, and what is known of the operand.
-use Rattle.std.specs.Prelude.{◌≡◌, ℕ, Bool, true, false, nat_le, nat_lt, if◌then◌else◌, List, [], ◌∷◌, ◌++◌, codes, Option, Some, None}
+use Rattle.std.specs.Prelude.{ℕ, Bool, true, false, nat_le, nat_lt, if◌then◌else◌, List, [], ◌∷◌, ◌++◌, codes, Option, Some, None}
 use Rattle.script_syntax.specs.declared.token.Sign.TheVariants.{Plus, Minus}
 use Rattle.script_syntax.specs.declared.token.Operator.{Operator}
 use Rattle.script_syntax.specs.declared.token.Operator.TheVariants as operators
@@ -16,7 +16,7 @@ use Rattle.script_syntax.specs.declared.frames.Frame.TheVariants as frames
 use Rattle.script_syntax.specs.declared.formula.Operand.{Operand}
 use Rattle.script_syntax.specs.declared.formula.Operand.TheVariants as operands
 use Rattle.script_syntax.specs.declared.formula.Formula.{Formula}
-use Rattle.script_syntax.specs.Grammar.{operator_word, call_joined, call_one, call_two, call_three}
+use Rattle.script_syntax.specs.Grammar.{call_joined, call_one, call_two, call_three}
 use Rattle.script_syntax.specs.inside.Levels.{level_of, left_level, right_level}
 
 -- how tightly an operand is bound once this frame is closed over it, or 0 where a token closes it

@@ -1,8 +1,5 @@
 -- How tightly operators bind, as numbers: `or` 1, `xor` 2, `and` 3, `not` 4, comparisons 5, sums 6, products 7, a sign 8.
 use Rattle.std.specs.Prelude.{ℕ, ◌+◌}
-use Rattle.script_syntax.specs.declared.token.Comparison.{Comparison}
-use Rattle.script_syntax.specs.declared.token.Sign.{Sign}
-use Rattle.script_syntax.specs.declared.token.Factor.{Factor}
 use Rattle.script_syntax.specs.declared.token.Operator.{Operator}
 use Rattle.script_syntax.specs.declared.token.Operator.TheVariants as operators
 

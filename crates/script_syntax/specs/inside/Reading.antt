@@ -1,7 +1,5 @@
 -- What a text gives, as a function: its tokens are taken one by one. `one_tree` is the law that ties it to the grammar.
-use Rattle.std.specs.Prelude.{◌≡◌, ⊤, ℕ, List, [], ◌∷◌, Option, Some, None, Result, Ok, Err}
-use Rattle.script_syntax.specs.declared.fault.ReadScript.{ReadScript}
-use Rattle.script_syntax.specs.declared.fault.ReadScript.TheVariants as errors
+use Rattle.std.specs.Prelude.{ℕ, List, [], ◌∷◌, Option, Some, None, Result, Ok, Err}
 use Rattle.script_syntax.specs.declared.fault.SyntaxKind.{SyntaxKind}
 use Rattle.script_syntax.specs.declared.fault.SyntaxKind.TheVariants as kinds
 use Rattle.script_syntax.specs.declared.fault.SyntaxFault.{SyntaxFault}

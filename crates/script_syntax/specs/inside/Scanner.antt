@@ -1,7 +1,6 @@
 -- A text that is read token by token.
-use Rattle.std.specs.Prelude.{◌≡◌, ℕ, ◌+◌, ◌<◌, ◌≤◌, ◌^◌, Bool, false, ◌==◌, if◌then◌else◌, List, [], ◌∷◌, length}
+use Rattle.std.specs.Prelude.{◌≡◌, ℕ, ◌+◌, ◌<◌, ◌≤◌, ◌^◌, ◌==◌, if◌then◌else◌, List, [], ◌∷◌, length}
 use Rattle.text_base.specs.Bytes.{is_blank}
-use Rattle.script_syntax.specs.declared.place.Place.{Place}
 use Rattle.script_syntax.specs.declared.scanner.Next.{Next}
 use Rattle.script_syntax.specs.declared.scanner.Next.TheVariants as next
 use Rattle.script_syntax.specs.declared.scanner.Scanner.{Scanner}

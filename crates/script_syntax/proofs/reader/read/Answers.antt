@@ -1,9 +1,7 @@
 use Rattle.std.proofs.Common.{sym, ◌∙◌, ap, subst, arith, length, ◌-◌}
-use Rattle.script_syntax.specs.Answers.{Reads}
-use Rattle.script_syntax.specs.inside.Reading.{and_then, read_scanned}
+use Rattle.script_syntax.specs.inside.Reading.{read_scanned}
 use Rattle.script_syntax.specs.inside.Counting.{AreBelow, counts_after}
 use Rattle.script_syntax.specs.inside.Scanner.{IsNextOf, scan_of}
-use Rattle.script_syntax.specs.Faults.{place_after_token}
 use Rattle.script_syntax.proofs.ReadSteps.{read_scanned-token, read_scanned-end, refused, taken, below_after, faulty, answers}
 use Rattle.script_syntax.proofs.reader.read.Goals as goal
 
