@@ -23,29 +23,29 @@ use Rattle.worked_models.specs.Chain.{chain_inputs, chain_operations, chain_outp
 -- ---- kinds
 
 -- one operand
-one_kind : (row : Row) (j kind : Kind) → has_count row 1 ≡ true → allows (common_kind row (j ∷ [])) (ask_at row 0) j ≡ true → given_kind row.gives (common_kind row (j ∷ [])) (j ∷ []) ≡ kind → HasKinds row (j ∷ []) kind
-one_kind row j kind count first gives = record { count = count; each = each; gives = gives }
+one_kind : (line : Row) (j kind : Kind) → has_count line 1 ≡ true → allows (common_kind line (j ∷ [])) (ask_at line 0) j ≡ true → given_kind line.gives (common_kind line (j ∷ [])) (j ∷ []) ≡ kind → HasKinds line (j ∷ []) kind
+one_kind line j kind count first gives = record { count = count; each = each; gives = gives }
   where
-    each : (i : ℕ) → i < 1 → allows (common_kind row (j ∷ [])) (ask_at row i) (kind_at (j ∷ []) i) ≡ true
+    each : (i : ℕ) → i < 1 → allows (common_kind line (j ∷ [])) (ask_at line i) (kind_at (j ∷ []) i) ≡ true
     each zero below = first
     each (suc i) below = absurd (omega arith)
 
 -- two operands
-two_kinds : (row : Row) (j k kind : Kind) → has_count row 2 ≡ true → allows (common_kind row (j ∷ k ∷ [])) (ask_at row 0) j ≡ true → allows (common_kind row (j ∷ k ∷ [])) (ask_at row 1) k ≡ true →
-    given_kind row.gives (common_kind row (j ∷ k ∷ [])) (j ∷ k ∷ []) ≡ kind → HasKinds row (j ∷ k ∷ []) kind
-two_kinds row j k kind count first second gives = record { count = count; each = each; gives = gives }
+two_kinds : (line : Row) (j k kind : Kind) → has_count line 2 ≡ true → allows (common_kind line (j ∷ k ∷ [])) (ask_at line 0) j ≡ true → allows (common_kind line (j ∷ k ∷ [])) (ask_at line 1) k ≡ true →
+    given_kind line.gives (common_kind line (j ∷ k ∷ [])) (j ∷ k ∷ []) ≡ kind → HasKinds line (j ∷ k ∷ []) kind
+two_kinds line j k kind count first second gives = record { count = count; each = each; gives = gives }
   where
-    each : (i : ℕ) → i < 2 → allows (common_kind row (j ∷ k ∷ [])) (ask_at row i) (kind_at (j ∷ k ∷ []) i) ≡ true
+    each : (i : ℕ) → i < 2 → allows (common_kind line (j ∷ k ∷ [])) (ask_at line i) (kind_at (j ∷ k ∷ []) i) ≡ true
     each zero below = first
     each (suc zero) below = second
     each (suc (suc i)) below = absurd (omega arith)
 
 -- three operands
-three_kinds : (row : Row) (j k l kind : Kind) → has_count row 3 ≡ true → allows (common_kind row (j ∷ k ∷ l ∷ [])) (ask_at row 0) j ≡ true → allows (common_kind row (j ∷ k ∷ l ∷ [])) (ask_at row 1) k ≡ true →
-    allows (common_kind row (j ∷ k ∷ l ∷ [])) (ask_at row 2) l ≡ true → given_kind row.gives (common_kind row (j ∷ k ∷ l ∷ [])) (j ∷ k ∷ l ∷ []) ≡ kind → HasKinds row (j ∷ k ∷ l ∷ []) kind
-three_kinds row j k l kind count first second third gives = record { count = count; each = each; gives = gives }
+three_kinds : (line : Row) (j k l kind : Kind) → has_count line 3 ≡ true → allows (common_kind line (j ∷ k ∷ l ∷ [])) (ask_at line 0) j ≡ true → allows (common_kind line (j ∷ k ∷ l ∷ [])) (ask_at line 1) k ≡ true →
+    allows (common_kind line (j ∷ k ∷ l ∷ [])) (ask_at line 2) l ≡ true → given_kind line.gives (common_kind line (j ∷ k ∷ l ∷ [])) (j ∷ k ∷ l ∷ []) ≡ kind → HasKinds line (j ∷ k ∷ l ∷ []) kind
+three_kinds line j k l kind count first second third gives = record { count = count; each = each; gives = gives }
   where
-    each : (i : ℕ) → i < 3 → allows (common_kind row (j ∷ k ∷ l ∷ [])) (ask_at row i) (kind_at (j ∷ k ∷ l ∷ []) i) ≡ true
+    each : (i : ℕ) → i < 3 → allows (common_kind line (j ∷ k ∷ l ∷ [])) (ask_at line i) (kind_at (j ∷ k ∷ l ∷ []) i) ≡ true
     each zero below = first
     each (suc zero) below = second
     each (suc (suc zero)) below = third
