@@ -7,4 +7,6 @@ mod cells;
 #[cfg(test)]
 mod maps;
 #[cfg(test)]
+mod meaning;
+#[cfg(test)]
 mod plain;

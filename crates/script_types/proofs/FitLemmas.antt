@@ -1,0 +1,56 @@
+-- Whether an expression fits, one node at a time.
+use Rattle.std.proofs.Common.{◌≡◌, ◌≤◌, ◌&&◌, ℕ, Bool, true, false, List, [], ◌∷◌, map, length, refl, sym, ap, ◌∙◌, arith}
+use Rattle.std.specs.Prelude.{Option, None, Some, nat_le, slice_get, option_map}
+use Rattle.std.specs.List.{list_all}
+use Rattle.std.proofs.lemmas.List.{length-map}
+use Rattle.cell_values.specs.declared.kind.Kind.{Kind}
+use Rattle.map_meaning.specs.declared.op.Op.{Op}
+use Rattle.map_meaning.specs.declared.tree.Tree.{Tree}
+use Rattle.map_meaning.specs.declared.tree.Tree.TheVariants as tree
+use Rattle.map_meaning.specs.declared.tree.Tree.TheVariants.{rolls-Call, rolls-Input, rolls-Name}
+use Rattle.map_meaning.specs.declared.tree.Tree.TheFolds.{fold-roll-Tree}
+use Rattle.map_meaning.specs.declared.tree.Tree.TheOpen.{Tree-F}
+use Rattle.map_meaning.proofs.Callers.{same_kind}
+use Rattle.script_types.specs.inside.Fits.{Ground, fits, fits_level, is_of}
+
+all-mapped : {A : Type 0} (f : A → Bool) (xs : List A) → list_all (λ b. b) (map f xs) ≡ list_all f xs
+all-mapped f [] = refl
+all-mapped f (x ∷ xs) = ap (λ rest. f x && rest) (all-mapped f xs)
+
+-- both hold
+pub both-left : (a b : Bool) → (a && b) ≡ true → a ≡ true
+both-left true b h = refl
+both-left false b h = cc
+
+pub both-right : (a b : Bool) → (a && b) ≡ true → b ≡ true
+both-right true b h = h
+both-right false b h = cc
+
+fits-call : (g : Ground) (k : Kind) (o : Op) (args : List Tree) → fits g (tree.Call k o args) ≡ (list_all (fits g) args && nat_le (length args) 4)
+unfolding fits
+fits-call g k o args = ap (fits g) (sym (rolls-Call k o args)) ∙ fold-roll-Tree Bool (fits_level g) (Tree-F.Call k o args) ∙ ap (λ n. list_all (λ b. b) (map (fits g) args) && nat_le n 4) (length-map args (fits g)) ∙ ap (λ b. b && nat_le (length args) 4) (all-mapped (fits g) args)
+
+-- the operands of a call that fits do
+pub fits-operands : (g : Ground) (t : Tree) (k : Kind) (o : Op) (args : List Tree) → t ≡ tree.Call k o args → fits g t ≡ true → list_all (fits g) args ≡ true
+fits-operands g t k o args ht h = both-left (list_all (fits g) args) (nat_le (length args) 4) (sym (ap (fits g) ht ∙ fits-call g k o args) ∙ h)
+
+at-most : (n : ℕ) → nat_le n 4 ≡ true → n ≤ 4
+at-most n h = grind (arith, h)
+
+-- a call that fits has at most four operands
+pub fits-few : (g : Ground) (t : Tree) (k : Kind) (o : Op) (args : List Tree) → t ≡ tree.Call k o args → fits g t ≡ true → length args ≤ 4
+fits-few g t k o args ht h = at-most (length args) (both-right (list_all (fits g) args) (nat_le (length args) 4) (sym (ap (fits g) ht ∙ fits-call g k o args) ∙ h))
+
+of-kind : (o : Option Kind) (k : Kind) → is_of o k ≡ true → o ≡ Some k
+of-kind None k h = cc
+of-kind (Some j) k h = ap Some (same_kind j k h)
+
+-- an input that fits has its kind
+pub fits-input : (g : Ground) (t : Tree) (k : Kind) (n : ℕ) → t ≡ tree.Input k n → fits g t ≡ true → option_map (λ i. i.kind) (slice_get g.inputs n) ≡ Some k
+unfolding fits
+fits-input g t k n ht h = of-kind (option_map (λ i. i.kind) (slice_get g.inputs n)) k (sym (ap (fits g) ht ∙ ap (fits g) (sym (rolls-Input k n)) ∙ fold-roll-Tree Bool (fits_level g) (Tree-F.Input k n)) ∙ h)
+
+-- a name that fits has its kind
+pub fits-name : (g : Ground) (t : Tree) (k : Kind) (name : List ℕ) → t ≡ tree.Name k name → fits g t ≡ true → g.above name ≡ Some k
+unfolding fits
+fits-name g t k name ht h = of-kind (g.above name) k (sym (ap (fits g) ht ∙ ap (fits g) (sym (rolls-Name k name)) ∙ fold-roll-Tree Bool (fits_level g) (Tree-F.Name k name)) ∙ h)

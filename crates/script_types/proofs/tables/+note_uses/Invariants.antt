@@ -1,0 +1,8 @@
+use Rattle.std.proofs.Common.{◌≡◌, ℕ, List, drop, map}
+use Rattle.script_types.specs.inside.Look.{look}
+use Rattle.script_types.specs.Names.{in_roles, joined_lists, role_of, uses}
+use Rattle.script_types.specs.Typing.{or_kind}
+use Rattle.script_types.proofs.tables.+note_uses.Given as goal
+
+abbrev pub invariant-loop-arg : goal.invariant-loop-arg
+invariant-loop-arg l = (name : List ℕ) → or_kind (look l.roles.values name) (role_of (joined_lists (in_roles l.asked (map uses (drop l.arg-index l.arg-items)))) name) ≡ or_kind (look l.fn.roles.values name) (role_of (joined_lists (in_roles l.initial.asked (map uses l.arg-items))) name)

@@ -1,0 +1,35 @@
+-- What lowering a script answers.
+use Rattle.std.specs.Prelude.{◌≡◌, true, false, List, map, Result, Ok, Err, ⊤}
+use Rattle.script_syntax.specs.declared.tree.Script.{Script}
+use Rattle.map_meaning.specs.declared.program.Program.{Program}
+use Rattle.script_types.specs.declared.end.LowerEnd.{LowerEnd}
+use Rattle.script_types.specs.declared.end.LowerEnd.TheVariants.{Meaning, Unbuilt, Memory}
+use Rattle.script_types.specs.declared.typed.Line.{Line}
+use Rattle.script_types.specs.Lowered.{area_number, inputs_of, as_listed, operations_from, outputs_from}
+use Rattle.script_types.specs.Meaning.{meaning}
+use Rattle.script_types.specs.Names.{binding_of}
+use Rattle.script_types.specs.Unbuilt.{is_unbuilt}
+
+-- The program is that of the settled statements of a script: its inputs, its area map, one operation for each of theirs in
+-- post-order with its kind, its statement and its number, its outputs, and the last step.
+pub record IsProgramOf (script : Script) (lines : List Line) (program : Program) : Type 0 where
+  pub inputs : program.inputs ≡ inputs_of script
+  pub area : program.area ≡ area_number script
+  pub operations : map as_listed program.initial ≡ operations_from 1 lines
+  pub outputs : program.outputs ≡ outputs_from (binding_of script) 1 0 lines
+  pub steps : program.steps ≡ script.steps
+
+-- the program of a script that is built and has no fault
+pub record IsLowered (script : Script) (program : Program) : Type 0 where
+  pub built : is_unbuilt script ≡ false
+  pub lines : List Line
+  pub meant : meaning script ≡ Ok lines
+  pub program_of : IsProgramOf script lines program
+
+-- An answer is `Unbuilt` exactly where the script has something that is not built; else the first fault of meaning where
+-- there is one; else the program of its statements; or there was no memory.
+abbrev pub Lowers : Result Program LowerEnd → Script → Type 0
+Lowers (Ok program) script = IsLowered script program
+Lowers (Err (Meaning fault)) script = (is_unbuilt script ≡ false) × (meaning script ≡ Err fault)
+Lowers (Err Unbuilt) script = is_unbuilt script ≡ true
+Lowers (Err Memory) script = ⊤

@@ -1,0 +1,13 @@
+pub mod Checks
+pub mod Table
+pub mod Names
+pub mod Typing
+pub mod Statements
+pub mod Reports
+pub mod Meaning
+pub mod Lowered
+pub mod Unbuilt
+pub mod Made
+pub mod Answers
+pub mod Laws
+pub mod inside

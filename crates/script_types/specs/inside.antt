@@ -1,0 +1,5 @@
+pub mod Look
+pub mod Scopes
+pub mod Values
+pub mod Answers
+pub mod Fits

@@ -1,0 +1,32 @@
+//! What a script means: the roles of its names and the kinds of its expressions, its first fault of meaning, and the
+//! program that has its value.
+#![tactic(auto)]
+
+mod bindings;
+mod call;
+mod emit;
+mod end;
+mod fault;
+mod laws;
+mod line;
+mod lowering;
+mod names;
+mod operands;
+mod program;
+mod reports;
+mod same;
+mod scope;
+mod settle;
+mod table;
+mod tables;
+mod typed;
+mod typing;
+mod unbuilt;
+
+pub use end::LowerEnd;
+pub use fault::{MeaningFault, MeaningKind, Place};
+pub use laws::{
+    a_kind_is_that_of_the_last_assignment_above, a_role_is_that_of_the_first_use,
+    the_first_fault_is_told,
+};
+pub use lowering::lower;

@@ -1,0 +1,50 @@
+ghost use Rattle.std.specs.Prelude.{◌≡◌, IfOk};
+ghost use Rattle.script_types.specs.Answers.{IsProgramOf, Lowers};
+ghost use Rattle.script_types.specs.Made.{IsMade};
+ghost use Rattle.script_types.specs.inside.Answers.{IsSettled};
+
+use crate::end::LowerEnd;
+use crate::program::{inputs_of, write_lines};
+use crate::settle::{Settled, settle};
+use crate::unbuilt::is_unbuilt;
+use map_meaning::Program;
+use script_syntax::Script;
+use std::alloc::{AllocError, Global};
+
+// The program of settled statements.
+fn program_of(alloc: Global, script: &Script, settled: &Settled<'_>) -> Result<Program, AllocError>
+    requires made { IsMade script.now }
+    requires settled { IsSettled script.now settled.now }
+    ensures { IfOk result (λ program. IsProgramOf script.now settled.now.lines program) }
+{
+    let inputs = inputs_of(alloc, script, settled)?;
+    let written = write_lines(alloc, &settled.scope, settled.lines.as_slice())?;
+    let area = settled.scope.inputs.get(script.area.bytes()).unwrap_or(0);
+    Ok(Program {
+        inputs,
+        initial: written.ops,
+        outputs: written.outputs,
+        area,
+        steps: script.steps,
+    })
+}
+
+/// The program of a script. `Unbuilt` comes exactly where the script has something of the language that is not built yet,
+/// and before every fault; `Meaning` exactly where it has a fault, which is the first in the order of the language's rules.
+/// Takes time in proportion to the script, but for the search of names and of words in the table of operations.
+pub fn lower(alloc: Global, script: &Script) -> Result<Program, LowerEnd>
+    requires { IsMade script.now }
+    ensures { Lowers result script.now }
+{
+    if is_unbuilt(script) {
+        return Err(LowerEnd::Unbuilt);
+    }
+    let settled = match settle(alloc, script) {
+        Ok(settled) => settled,
+        Err(end) => return Err(end),
+    };
+    match program_of(alloc, script, &settled) {
+        Ok(program) => Ok(program),
+        Err(_) => Err(LowerEnd::Memory),
+    }
+}

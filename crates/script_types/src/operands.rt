@@ -1,0 +1,234 @@
+ghost use Rattle.std.specs.Prelude.{◌≡◌, map, IfOk};
+ghost use Rattle.std.specs.Vec.Iter.{into_iter_items};
+ghost use Rattle.map_meaning.specs.Table.{allows, given_kind};
+ghost use Rattle.script_types.specs.Typing.{agreed_kind, argument_at, argument_kind, arguments_at, call_tree, deciding, bound_file_at, free_at, kind_of_free, maps_of, nested_on, number_map, row_value};
+ghost use Rattle.script_types.specs.inside.Scopes.{GivesKind, GivesList};
+
+use crate::end::KindEnd;
+use crate::fault::MeaningKind;
+use crate::same::{has_kind, is_kind};
+use crate::scope::number_as;
+use crate::table::{ask_at, op_of};
+use crate::typed::{Argument, Typed, Value};
+use cell_values::Kind;
+use map_meaning::{Ask, Given, Kinds, MANY_OPERANDS, Op, Row, Tree};
+use sqlite_items::{Items, at as at_place};
+use std::alloc::{AllocError, Global};
+use std::vec::IntoIter;
+
+// The kind that decides where operands must agree.
+fn deciding(asked: Ask, operand: &Typed) -> Option<Kind>
+    ensures { result ≡ deciding asked operand.now }
+{
+    match (asked, operand) {
+        (Ask::Alike(_), Typed::Map(value)) => Some(value.kind),
+        _ => None,
+    }
+}
+
+/// The kind in which operands agree.
+pub fn agreed_kind(row: &Row, operands: &[Typed]) -> Kind
+    ensures { result ≡ agreed_kind row.now operands.now }
+{
+    for at in 0..operands.len() {
+        if let Some(kind) = deciding(ask_at(row, at), &operands[at]) {
+            return kind;
+        }
+    }
+    Kind::Scalar
+}
+
+// The kind of a free number where several may stand.
+fn kind_of_free(kinds: Kinds) -> Kind
+    ensures { result ≡ kind_of_free kinds }
+{
+    if kinds.scalar {
+        Kind::Scalar
+    } else {
+        Kind::Nominal
+    }
+}
+
+// A number as a map.
+fn number_map(kind: Kind, text: &[u8]) -> Result<Argument, KindEnd>
+    ensures { GivesKind result (number_map kind text.now) }
+{
+    Ok(Argument::Map(number_as(kind, text)?))
+}
+
+// A free number at its place.
+fn free_at(agreed: Kind, asked: Ask, text: &[u8]) -> Result<Argument, KindEnd>
+    ensures { GivesKind result (free_at agreed asked text.now) }
+{
+    match asked {
+        Ask::Only(kind) => number_map(kind, text),
+        Ask::One(kinds) => number_map(kind_of_free(kinds), text),
+        Ask::Alike(_) => number_map(agreed, text),
+        Ask::Length => Ok(Argument::Other(Kind::Nominal)),
+        Ask::Table(_) => Err(KindEnd::Meaning(MeaningKind::KindMismatch)),
+        Ask::Series(_) => Err(KindEnd::Meaning(MeaningKind::KindMismatch)),
+        Ask::Stack => Err(KindEnd::Meaning(MeaningKind::KindMismatch)),
+    }
+}
+
+// Whether a map of this kind may stand at the place.
+fn allows(agreed: Kind, asked: Ask, kind: Kind) -> bool
+    ensures { result ≡ allows agreed asked kind }
+{
+    match asked {
+        Ask::Only(only) => is_kind(only, kind),
+        Ask::One(kinds) => has_kind(kinds, kind),
+        Ask::Alike(kinds) => has_kind(kinds, kind) && is_kind(agreed, kind),
+        Ask::Table(_) => false,
+        Ask::Series(_) => false,
+        Ask::Stack => false,
+        Ask::Length => false,
+    }
+}
+
+// A table, a series or a stack at its place.
+fn file_at(asked: Ask, operand: &Typed) -> Result<Argument, KindEnd>
+    ensures { GivesKind result (bound_file_at asked operand.now) }
+{
+    match (asked, operand) {
+        (Ask::Table(_), Typed::Table(kind)) => Ok(Argument::Other(*kind)),
+        (Ask::Series(_), Typed::Series(kind)) => Ok(Argument::Other(*kind)),
+        (Ask::Stack, Typed::Stack(kind)) => Ok(Argument::Other(*kind)),
+        _ => Err(KindEnd::Meaning(MeaningKind::KindMismatch)),
+    }
+}
+
+// An operand at its place.
+fn argument_at(agreed: Kind, asked: Ask, operand: Typed) -> Result<Argument, KindEnd>
+    ensures { GivesKind result (argument_at agreed asked operand) }
+{
+    match operand {
+        Typed::Literal(text) => free_at(agreed, asked, text.bytes()),
+        Typed::Constant(text) => free_at(agreed, asked, text.bytes()),
+        Typed::Map(value) => {
+            if allows(agreed, asked, value.kind) {
+                Ok(Argument::Map(value))
+            } else {
+                Err(KindEnd::Meaning(MeaningKind::KindMismatch))
+            }
+        }
+        Typed::Table(kind) => file_at(asked, &Typed::Table(kind)),
+        Typed::Series(kind) => file_at(asked, &Typed::Series(kind)),
+        Typed::Stack(kind) => file_at(asked, &Typed::Stack(kind)),
+    }
+}
+
+// The operands, each at its place.
+fn arguments_at(
+    alloc: Global,
+    row: &Row,
+    agreed: Kind,
+    operands: Vec<Typed>,
+) -> Result<Vec<Argument>, KindEnd>
+    ensures { GivesList result (arguments_at row.now agreed 0 operands.items) }
+{
+    let mut arguments = Vec::new(alloc);
+    let mut at = 0;
+    for operand in operands {
+        let argument = argument_at(agreed, ask_at(row, at), operand)?;
+        arguments.push(argument)?;
+        at += 1;
+    }
+    Ok(arguments)
+}
+
+// The kind of an operand at its place.
+fn argument_kind(argument: &Argument) -> Kind
+    ensures { result ≡ argument_kind argument.now }
+{
+    match argument {
+        Argument::Map(value) => value.kind,
+        Argument::Other(kind) => *kind,
+    }
+}
+
+// The kind of an operation on these operands.
+fn given_kind(given: Given, agreed: Kind, arguments: &[Argument]) -> Kind
+    ensures { result ≡ given_kind given agreed (map argument_kind arguments.now) }
+{
+    match given {
+        Given::Always(kind) => kind,
+        Given::Common => agreed,
+        Given::Same(at) => match at_place(arguments, at) {
+            Some(argument) => argument_kind(argument),
+            None => Kind::Scalar,
+        },
+    }
+}
+
+// The operands that are maps.
+fn maps_of(alloc: Global, arguments: Vec<Argument>) -> Result<Vec<Tree>, AllocError>
+    ensures { IfOk result (λ maps. maps.items ≡ maps_of arguments.items) }
+{
+    let mut maps = Vec::new(alloc);
+    for argument in arguments {
+        if let Argument::Map(value) = argument {
+            maps.push(value.tree)?;
+        }
+    }
+    Ok(maps)
+}
+
+// Operations of two operands, nested from the left.
+fn nested_on(
+    alloc: Global,
+    op: Op,
+    kind: Kind,
+    first: Tree,
+    rest: IntoIter<Tree>,
+) -> Result<Tree, AllocError>
+    ensures { IfOk result (λ tree. tree ≡ nested_on op kind first (into_iter_items rest)) }
+{
+    let mut left = first;
+    for tree in rest {
+        let mut operands = Items::new(alloc);
+        operands.push(left)?;
+        operands.push(tree)?;
+        left = Tree::Call { kind, op, operands };
+    }
+    Ok(left)
+}
+
+// An operation on its operands.
+fn call_tree(alloc: Global, row: &Row, kind: Kind, maps: Vec<Tree>) -> Result<Tree, AllocError>
+    ensures { IfOk result (λ tree. tree ≡ call_tree row.now kind maps.items) }
+{
+    let op = op_of(row.meant);
+    if row.most < MANY_OPERANDS {
+        return Ok(Tree::Call {
+            kind,
+            op,
+            operands: Items::from_vec(maps),
+        });
+    }
+    let mut maps = maps.into_iter();
+    match maps.next() {
+        Some(first) => nested_on(alloc, op, kind, first, maps),
+        None => Ok(Tree::Call {
+            kind,
+            op,
+            operands: Items::new(alloc),
+        }),
+    }
+}
+
+/// An operation on these operands, by its row of the table.
+pub fn row_value(
+    alloc: Global,
+    row: &Row,
+    agreed: Kind,
+    operands: Vec<Typed>,
+) -> Result<Typed, KindEnd>
+    ensures { GivesKind result (row_value row.now agreed operands.items) }
+{
+    let arguments = arguments_at(alloc, row, agreed, operands)?;
+    let kind = given_kind(row.gives, agreed, arguments.as_slice());
+    let maps = maps_of(alloc, arguments)?;
+    let tree = call_tree(alloc, row, kind, maps)?;
+    Ok(Typed::Map(Value { kind, tree }))
+}

@@ -1,0 +1,164 @@
+ghost use Rattle.std.specs.Prelude.{◌≡◌, ◌&&◌, ◌==◌, ◌≤◌, length};
+ghost use Rattle.std.specs.Option.{option_copied};
+ghost use Rattle.std.specs.List.{find, list_any, position_or_len};
+ghost use Rattle.text_base.specs.Bytes.{space};
+ghost use Rattle.map_meaning.specs.Table.{ask_at, takes};
+ghost use Rattle.script_types.specs.Names.{first_role, role_asked};
+ghost use Rattle.script_types.specs.Table.{is_spelled, is_unbuilt_meant, row_for, word_row, op_of, asks_drain};
+ghost use Rattle.script_types.specs.Unbuilt.{is_unbuilt_word};
+
+use crate::typed::UsedAs;
+use cell_values::Kind;
+use map_meaning::{Ask, Meant, Op, Row, rows};
+
+// How many bytes stand before the first space.
+fn space_at(word: &[u8]) -> usize
+    ensures first { result ≡ position_or_len (λ byte. byte == space) word.now }
+    ensures within { result ≤ length word.now }
+{
+    for at in 0..word.len() {
+        if word[at] == b' ' {
+            return at;
+        }
+    }
+    word.len()
+}
+
+// Whether the row is written so.
+fn is_spelled(row: &Row, word: &[u8]) -> bool
+    ensures { result ≡ is_spelled row.now word.now }
+{
+    let spelled = row.word.as_slice();
+    &spelled[..space_at(spelled)] == word
+}
+
+// Whether the row may have this many operands.
+fn takes(row: &Row, count: usize) -> bool
+    ensures { result ≡ takes row.now count }
+{
+    row.least <= count && count <= row.most
+}
+
+// The first of the rows that is written so and may have this many operands.
+fn find_row<'a>(rows: &'a [Row], word: &[u8], count: usize) -> Option<&'a Row>
+    ensures { option_copied result ≡ find (λ row. is_spelled row word.now && takes row count) rows.now }
+{
+    for row in rows {
+        if is_spelled(row, word) && takes(row, count) {
+            return Some(row);
+        }
+    }
+    None
+}
+
+// The first of the rows that is written so.
+fn find_word<'a>(rows: &'a [Row], word: &[u8]) -> Option<&'a Row>
+    ensures { option_copied result ≡ find (λ row. is_spelled row word.now) rows.now }
+{
+    for row in rows {
+        if is_spelled(row, word) {
+            return Some(row);
+        }
+    }
+    None
+}
+
+// Whether what the row stands for is not built.
+fn is_unbuilt_meant(meant: Meant) -> bool
+    ensures { result ≡ is_unbuilt_meant meant }
+{
+    match meant {
+        Meant::Unbuilt => true,
+        Meant::Op(_) => false,
+    }
+}
+
+// Whether one of the rows is written so and not built.
+fn has_unbuilt(rows: &[Row], word: &[u8]) -> bool
+    ensures { result ≡ list_any (λ row. is_spelled row word.now && is_unbuilt_meant row.meant) rows.now }
+{
+    for row in rows {
+        if is_spelled(row, word) && is_unbuilt_meant(row.meant) {
+            return true;
+        }
+    }
+    false
+}
+
+/// The row that is written so and takes this many operands.
+#[tactic(auto, unfolding(crate::specs::Table::row_for))]
+pub fn row_for(word: &[u8], count: usize) -> Option<&'static Row>
+    ensures { option_copied result ≡ row_for word.now count }
+{
+    find_row(rows(), word, count)
+}
+
+/// The first row that is written so.
+#[tactic(auto, unfolding(crate::specs::Table::word_row))]
+pub fn word_row(word: &[u8]) -> Option<&'static Row>
+    ensures { option_copied result ≡ word_row word.now }
+{
+    find_word(rows(), word)
+}
+
+/// Whether the word is that of something that is not built.
+#[tactic(auto, unfolding(crate::specs::Unbuilt::is_unbuilt_word))]
+pub fn is_unbuilt_word(word: &[u8]) -> bool
+    ensures { result ≡ is_unbuilt_word word.now }
+{
+    has_unbuilt(rows(), word)
+}
+
+/// What a name is used as that is the first of so many operands of this word.
+#[tactic(auto, unfolding(crate::specs::Names::first_role))]
+pub fn first_role(word: &[u8], count: usize) -> UsedAs
+    ensures { result ≡ first_role word.now count }
+{
+    match word_row(word) {
+        Some(row) => role_asked(count, ask_at(row, 0)),
+        None => UsedAs::Grid,
+    }
+}
+
+/// What the operand at this place is asked.
+pub fn ask_at(row: &Row, at: usize) -> Ask
+    ensures { result ≡ ask_at row.now at }
+{
+    match at {
+        0 => row.first,
+        1 => row.second,
+        _ => row.further,
+    }
+}
+
+/// The operation that a row stands for.
+pub fn op_of(meant: Meant) -> Op
+    ensures { result ≡ op_of meant }
+{
+    match meant {
+        Meant::Op(op) => op,
+        Meant::Unbuilt => Op::CopyOf,
+    }
+}
+
+/// Whether the place asks a drain map.
+pub fn asks_drain(asked: Ask) -> bool
+    ensures { result ≡ asks_drain asked }
+{
+    matches!(asked, Ask::Only(Kind::Ldd))
+}
+
+// What a name is used as in a place that asks so, as the first of so many operands.
+fn role_asked(count: usize, asked: Ask) -> UsedAs
+    ensures { result ≡ role_asked count asked }
+{
+    match asked {
+        Ask::Table(kind) => UsedAs::Table {
+            keys: count.saturating_sub(1),
+            kind,
+        },
+        Ask::Series(kind) => UsedAs::Series { kind },
+        Ask::Stack => UsedAs::Stack,
+        Ask::Only(_) | Ask::One(_) | Ask::Alike(_) | Ask::Length => UsedAs::Grid,
+    }
+}
