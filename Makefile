@@ -48,6 +48,7 @@ test:
 
 # Times the program beside a small one in stock Rust, and writes docs/PERFORMANCE.md. No part of the gate.
 bench: $(PROGRAM)
+	@cd crates/timed_calls && { rt run >out.log 2>&1 || { cat out.log; exit 1; }; rm -f out.log; }
 	@scripts/bench $(PROGRAM)
 
 # Installs what was built, and builds nothing, so that root proves nothing.

@@ -1,0 +1,193 @@
+//! The calls of `crates/timed_calls` in stock Rust: the same loops over the same 16-byte cells, the best of as many rounds.
+//! It prints the lines that `timed_calls` prints for `cells`, `tiles` and `table`.
+
+use std::env;
+use std::hint::black_box;
+use std::time::Instant;
+
+#[derive(Clone, Copy, PartialEq)]
+enum Cell {
+    Mv,
+    Val(i64),
+}
+use Cell::*;
+
+const MOST: i64 = 9_000_000_000_000_000_000;
+const PLACES: usize = 100_000;
+
+/// Cells of a row of drawn numbers, of which one in eleven is missing.
+fn drawn(step: u64, shift: u32) -> Vec<Cell> {
+    let mut number = 12345u64;
+    (0..PLACES)
+        .map(|_| {
+            number = number.wrapping_mul(6364136223846793005).wrapping_add(step);
+            if number % 11 == 3 {
+                Mv
+            } else {
+                Val(((number >> shift) % 2_147_483_648) as i64)
+            }
+        })
+        .collect()
+}
+
+fn in_range(v: i64) -> bool { -MOST <= v && v <= MOST }
+
+#[inline(never)]
+fn add(a: &[Cell], b: &[Cell]) -> (Vec<Cell>, Option<u32>) {
+    let mut out = Vec::with_capacity(a.len());
+    let mut over = None;
+    for (i, (x, y)) in a.iter().zip(b).enumerate() {
+        out.push(match (x, y) {
+            (Val(x), Val(y)) => match x.checked_add(*y) {
+                Some(v) if in_range(v) => Val(v),
+                _ => { if over.is_none() { over = Some(i as u32) } Mv }
+            },
+            _ => Mv,
+        });
+    }
+    (out, over)
+}
+#[inline(never)]
+fn min(a: &[Cell], b: &[Cell]) -> (Vec<Cell>, Option<u32>) {
+    let mut out = Vec::with_capacity(a.len());
+    for (x, y) in a.iter().zip(b) {
+        out.push(match (x, y) { (Val(x), Val(y)) => Val(*x.min(y)), _ => Mv });
+    }
+    (out, None)
+}
+#[inline(never)]
+fn less(a: &[Cell], b: &[Cell]) -> (Vec<Cell>, Option<u32>) {
+    let mut out = Vec::with_capacity(a.len());
+    for (x, y) in a.iter().zip(b) {
+        out.push(match (x, y) { (Val(x), Val(y)) => Val((x < y) as i64), _ => Mv });
+    }
+    (out, None)
+}
+#[inline(never)]
+fn choice(c: &[Cell], a: &[Cell], b: &[Cell]) -> (Vec<Cell>, Option<u32>) {
+    let mut out = Vec::with_capacity(a.len());
+    for ((c, x), y) in c.iter().zip(a).zip(b) {
+        out.push(match c { Val(1) => *x, Val(_) => *y, Mv => Mv });
+    }
+    (out, None)
+}
+#[inline(never)]
+fn scalar(a: &[Cell]) -> (Vec<Cell>, Option<u32>) {
+    let mut out = Vec::with_capacity(a.len());
+    let mut over = None;
+    for (i, x) in a.iter().enumerate() {
+        out.push(match x {
+            Val(x) => match x.checked_mul(1_000_000) {
+                Some(v) if in_range(v) => Val(v),
+                _ => { if over.is_none() { over = Some(i as u32) } Mv }
+            },
+            Mv => Mv,
+        });
+    }
+    (out, over)
+}
+
+fn best_of(rounds: usize, mut round: impl FnMut() -> usize) -> (u128, usize) {
+    let (mut best, mut sum) = (u128::MAX, 0usize);
+    for _ in 0..rounds {
+        let start = Instant::now();
+        sum = sum.wrapping_add(round());
+        best = best.min(start.elapsed().as_nanos());
+    }
+    (best, sum)
+}
+
+fn time_cells() {
+    let a = drawn(1442695040888963407, 33);
+    let b = drawn(987654321, 33);
+    let truth = drawn(1442695040888963407, 63);
+    let say = |name: &str, (best, sum): (u128, usize)| println!("{name} {best} {sum}");
+    say("add", best_of(200, || black_box(add(black_box(&a), black_box(&b))).0.len()));
+    say("min", best_of(200, || black_box(min(black_box(&a), black_box(&b))).0.len()));
+    say("less", best_of(200, || black_box(less(black_box(&a), black_box(&b))).0.len()));
+    say("if", best_of(200, || black_box(choice(black_box(&truth), black_box(&a), black_box(&b))).0.len()));
+    say("scalar", best_of(200, || black_box(scalar(black_box(&a))).0.len()));
+}
+
+const SIDE: usize = 2048;
+const TILE: usize = 64;
+const ACROSS: usize = SIDE / TILE;
+
+fn cut(cells: &[Cell], top: usize, left: usize, rows: usize, cols: usize) -> Vec<Cell> {
+    let mut got = Vec::with_capacity(rows * cols);
+    for row in top..top + rows {
+        got.extend_from_slice(&cells[row * SIDE + left..row * SIDE + left + cols]);
+    }
+    got
+}
+
+/// The cells of a tile grown by `k` on each side, from the tiles that have them.
+fn gather(tiles: &[Vec<Cell>], tile: usize, k: usize) -> Vec<Cell> {
+    let (tile_top, tile_left) = (tile / ACROSS * TILE, tile % ACROSS * TILE);
+    let (top, left) = (tile_top.saturating_sub(k), tile_left.saturating_sub(k));
+    let (rows, cols) = (SIDE.min(tile_top + TILE + k) - top, SIDE.min(tile_left + TILE + k) - left);
+    let mut got = Vec::with_capacity(rows * cols);
+    for row in top..top + rows {
+        let (mut col, mut tile_col) = (left, left / TILE);
+        while col < left + cols {
+            let end = (left + cols).min((tile_col + 1) * TILE);
+            let cells = &tiles[row / TILE * ACROSS + tile_col];
+            let start = row % TILE * TILE;
+            got.extend_from_slice(&cells[start + col - tile_col * TILE..start + end - tile_col * TILE]);
+            (col, tile_col) = (end, tile_col + 1);
+        }
+    }
+    got
+}
+
+fn time_tiles() {
+    let cells = vec![Val(env::args().count() as i64); SIDE * SIDE];
+    let mut into = vec![Val(7); SIDE * SIDE];
+    let all = || (0..ACROSS * ACROSS).map(|t| cut(black_box(&cells), t / ACROSS * TILE, t % ACROSS * TILE, TILE, TILE)).collect::<Vec<_>>();
+    let tiles = all();
+    let (cutting, _) = best_of(20, || black_box(all()).len());
+    let (near, _) = best_of(20, || (0..tiles.len()).map(|t| black_box(gather(&tiles, t, 1)).len()).sum());
+    let (wide, _) = best_of(20, || (0..tiles.len()).map(|t| black_box(gather(&tiles, t, 15)).len()).sum());
+    let (paste, _) = best_of(20, || {
+        for (t, part) in tiles.iter().enumerate() {
+            let (top, left) = (t / ACROSS * TILE, t % ACROSS * TILE);
+            for row in 0..TILE {
+                let at = (top + row) * SIDE + left;
+                into[at..at + TILE].copy_from_slice(&part[row * TILE..(row + 1) * TILE]);
+            }
+        }
+        black_box(&into).len()
+    });
+    println!("cut {cutting}\nnear {near}\nwide {wide}\npaste {paste}");
+}
+
+/// The first of ten ranges that has the key: a loop over the rows.
+fn find(rows: &[(i64, i64, i64)], key: i64) -> Cell {
+    rows.iter().find(|row| row.0 <= key && key <= row.1).map_or(Mv, |row| Val(row.2))
+}
+
+fn time_table() {
+    let rows: Vec<(i64, i64, i64)> = (0..10)
+        .map(|n| (n * 1_000_000, n * 1_000_000 + 999_999, if n == 9 { 5_000_000 } else { (n + 1) * 10_000_000 }))
+        .collect();
+    let mut key = 0i64;
+    let (best, _) = best_of(20, || {
+        for _ in 0..1_000_000 {
+            key = match find(black_box(&rows), key) {
+                Val(found) => found.wrapping_mul(7).wrapping_add(key) & 0x7f_ffff,
+                Mv => 3_000_001,
+            };
+        }
+        0
+    });
+    println!("find {best} {key}");
+}
+
+fn main() {
+    match env::args().nth(1).as_deref() {
+        Some("cells") => time_cells(),
+        Some("tiles") => time_tiles(),
+        Some("table") => time_table(),
+        _ => println!("tiles | cells | table"),
+    }
+}

@@ -1,0 +1,107 @@
+//! Operations on cells over lists of 100,000.
+
+ghost use Rattle.std.specs.Prelude.{◌<◌};
+ghost use Rattle.cell_ops.specs.Work.{IsWork};
+
+use crate::best::Best;
+use cell_ops::{CellWork, cell_part};
+use cell_values::Cell::{Mv, Val};
+use cell_values::{Cell, Kind};
+use map_meaning::Op;
+use std::alloc::{AllocError, Global};
+use std::rt::Clock;
+use std::test::Fail;
+use std::time::Instant;
+use tile_map::Arg;
+
+/// How many places each list has.
+const PLACES: u32 = 100_000;
+
+/// How many rounds are timed.
+const ROUNDS: u32 = 200;
+
+// Cells of a row of drawn numbers, of which one in eleven is missing: the highest bits of each, so many as are left behind
+// the shift.
+fn drawn(alloc: Global, step: u64, shift: u32) -> Result<Vec<Cell>, AllocError>
+    requires { shift < 64 }
+{
+    let mut cells = Vec::new(alloc);
+    let mut number = 12345u64;
+    for _ in 0..PLACES {
+        number = number.wrapping_mul(6364136223846793005).wrapping_add(step);
+        let cell = if number % 11 == 3 {
+            Mv
+        } else {
+            Val(((number >> shift) % 2_147_483_648) as i64)
+        };
+        cells.push(cell)?;
+    }
+    Ok(cells)
+}
+
+// How many cells the operation gives.
+fn computed(
+    alloc: Global,
+    work: CellWork,
+    a: &[Cell],
+    b: &[Cell],
+    c: &[Cell],
+) -> Result<usize, AllocError>
+    requires { IsWork work }
+{
+    let len = a.len();
+    if len > 4_194_304 || b.len() != len || c.len() != len {
+        return Ok(0);
+    }
+    let part = cell_part(
+        alloc,
+        work,
+        len,
+        Arg::Cells(a),
+        Arg::Cells(b),
+        Arg::Cells(c),
+        Arg::Unused,
+    )?;
+    Ok(part.cells.as_slice().len())
+}
+
+// Times an operation, and prints its best round.
+fn time_work<R: Clock + Print + AllocGlobal>(
+    rt: &R,
+    name: &str,
+    work: CellWork,
+    a: &[Cell],
+    b: &[Cell],
+    c: &[Cell],
+) -> Result<(), Fail>
+    requires { IsWork work }
+{
+    let mut best = Best::none();
+    let mut sum = 0usize;
+    for _ in 0..ROUNDS {
+        let start = Instant::now(rt)?;
+        sum = sum.wrapping_add(computed(rt.alloc(), work, a, b, c)?);
+        best.note(start.elapsed(rt)?);
+    }
+    let best = best.nanoseconds();
+    println!(rt; "{name} {best} {sum}")?;
+    Ok(())
+}
+
+/// Times some operations on cells, and prints the best round of each in nanoseconds.
+pub fn time_cells<R: Clock + Print + AllocGlobal>(rt: &R) -> Result<(), Fail> {
+    let a = drawn(rt.alloc(), 1442695040888963407, 33)?;
+    let b = drawn(rt.alloc(), 987654321, 33)?;
+    let truth = drawn(rt.alloc(), 1442695040888963407, 63)?;
+    let (a, b, truth) = (a.as_slice(), b.as_slice(), truth.as_slice());
+    time_work(rt, "add", CellWork::Plain(Op::Add), a, b, b)?;
+    time_work(rt, "min", CellWork::Plain(Op::Min), a, b, b)?;
+    time_work(rt, "less", CellWork::Plain(Op::Less), a, b, b)?;
+    time_work(rt, "if", CellWork::Plain(Op::IfElse), truth, a, b)?;
+    let to_scalar = CellWork::Convert {
+        from: Kind::Nominal,
+        to: Kind::Scalar,
+    };
+    time_work(rt, "scalar", to_scalar, a, b, b)?;
+    Ok(())
+}

@@ -1,0 +1,33 @@
+//! Times calls that no script reaches yet, for `make bench`: `tiles`, `cells` or `table`. Without a word it says these.
+#![tactic(auto)]
+
+mod best;
+mod cells;
+mod table;
+mod tiles;
+
+use cells::time_cells;
+use std::env;
+use std::rt::{Clock, Env};
+use std::test::Fail;
+use table::time_table;
+use tiles::time_tiles;
+
+// Times what the first word names.
+fn run<R: Clock + Env + Print + AllocGlobal>(rt: &R) -> Result<(), Fail> {
+    for arg in env::args(rt)?.skip(1) {
+        match arg.as_bytes() {
+            b"tiles" => time_tiles(rt)?,
+            b"cells" => time_cells(rt)?,
+            b"table" => time_table(rt)?,
+            _ => println!(rt; "tiles | cells | table")?,
+        }
+        return Ok(());
+    }
+    println!(rt; "tiles | cells | table")?;
+    Ok(())
+}
+
+fn main(rt: HostRuntime) -> Result<(), Fail> {
+    run(&rt)
+}
