@@ -29,7 +29,7 @@ pub const FOUR_SIX: &str =
     "ncols 2\nnrows 1\nxllcorner 0\nyllcorner 0\ncellsize 1\nNODATA_value 1e31\n4 6\n";
 
 /// A folder that holds a script and two grids.
-pub fn folder_of(alloc: Global, script: &str, a: &str, b: &str) -> Result<MemFolder, Fail> {
+pub(crate) fn folder_of(alloc: Global, script: &str, a: &str, b: &str) -> Result<MemFolder, Fail> {
     let mut folder = MemFolder::new(alloc);
     folder.hold(alloc, b"m.mod", script.as_bytes())?;
     folder.hold(alloc, b"a.asc", a.as_bytes())?;
@@ -38,14 +38,14 @@ pub fn folder_of(alloc: Global, script: &str, a: &str, b: &str) -> Result<MemFol
 }
 
 /// The same folder, one of whose calls is to fail; none where the number is 0.
-pub fn failing_folder(alloc: Global, call: u64) -> Result<MemFolder, Fail> {
+pub(crate) fn failing_folder(alloc: Global, call: u64) -> Result<MemFolder, Fail> {
     let mut folder = folder_of(alloc, SUM, ONE_TWO, THREE_FOUR)?;
     folder.fail_on(vec![in alloc; call]?);
     Ok(folder)
 }
 
 /// The words of a text, split at spaces.
-pub fn words_of(alloc: Global, text: &str) -> Result<Vec<Word>, Fail> {
+pub(crate) fn words_of(alloc: Global, text: &str) -> Result<Vec<Word>, Fail> {
     let mut words = Vec::new(alloc);
     for word in text.split_whitespace() {
         words.push(Word::new(alloc, word.as_bytes())?)?;
@@ -54,7 +54,7 @@ pub fn words_of(alloc: Global, text: &str) -> Result<Vec<Word>, Fail> {
 }
 
 /// The end of the words of a text.
-pub fn end_of<F: Folder, S: Sink>(
+pub(crate) fn end_of<F: Folder, S: Sink>(
     alloc: Global,
     text: &str,
     folder: &mut F,
@@ -65,7 +65,7 @@ pub fn end_of<F: Folder, S: Sink>(
 }
 
 /// The words of a text end with that status and that line.
-pub fn expect_end<F: Folder>(
+pub(crate) fn expect_end<F: Folder>(
     rt: &impl Abort,
     alloc: Global,
     text: &str,
@@ -81,7 +81,7 @@ pub fn expect_end<F: Folder>(
 }
 
 /// These files were put, in order, and no others.
-pub fn expect_puts(rt: &impl Abort, folder: &MemFolder, puts: &[File], row: &str) {
+pub(crate) fn expect_puts(rt: &impl Abort, folder: &MemFolder, puts: &[File], row: &str) {
     assert_eq!(rt; folder.put_count(), puts.len() as u64, "puts at {row}");
     for (i, put) in puts.iter().enumerate() {
         let place = i as u64;

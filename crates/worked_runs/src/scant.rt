@@ -16,7 +16,7 @@ pub struct ScantFolder {
 
 impl ScantFolder {
     /// That folder, where the call of this number finds no memory; none where the number is 0.
-    pub fn new(folder: MemFolder, scant: u64) -> ScantFolder {
+    pub(crate) fn new(folder: MemFolder, scant: u64) -> ScantFolder {
         ScantFolder {
             folder,
             calls: 0,
