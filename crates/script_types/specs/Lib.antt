@@ -6,6 +6,7 @@ pub mod Statements
 pub mod Reports
 pub mod Meaning
 pub mod Lowered
+pub mod Values
 pub mod Unbuilt
 pub mod Made
 pub mod Answers
