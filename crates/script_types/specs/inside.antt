@@ -2,4 +2,5 @@ pub mod Look
 pub mod Scopes
 pub mod Values
 pub mod Answers
+pub mod FitLines
 pub mod Fits
