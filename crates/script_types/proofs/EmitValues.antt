@@ -52,7 +52,8 @@ all-before-push : (n k : ℕ) (xs : List Operand) (x : Operand) → n ≤ k → 
 all-before-push n k [] x h a b = (b, tt)
 all-before-push n k (y ∷ xs) x h a b = (before-more n k y h a.0, all-before-push n k xs x h a.1 b)
 
-holds-more : (holder : List ℕ → Option ℕ) (names : Environment) (maps added after : List WholeMap) → after ≡ maps ++ added → HoldsMap holder names maps → HoldsMap holder names after
+-- a name keeps its map where more operations are done
+pub holds-more : (holder : List ℕ → Option ℕ) (names : Environment) (maps added after : List WholeMap) → after ≡ maps ++ added → HoldsMap holder names maps → HoldsMap holder names after
 holds-more holder names maps added after e h = λ name k is. let f = h name k is in let below : k < length maps = f.0 in (
   subst (λ ms. k < length ms) (sym e) (let l = length-append maps added in omega (arith, l, below)),
   f.1 ∙ sym (get_or_append_left maps added [] k below) ∙ ap (λ ms. nth ms k) (sym e),
@@ -71,6 +72,7 @@ computes-number inputs holder old statement first kind cell = record {
   appended = sym (append-nil old);
   count = sym (ap (λ m. m.operations) (meaning_of-Number kind cell));
   before = tt;
+  last = λ some. absurd (let none = ap (λ (m : TreeMeaning). m.operations) (meaning_of-Number kind cell) in omega (arith, some, none));
   kind = λ program x. ap (λ m. Some m.kind) (sym (meaning_of-Number kind cell));
   value = λ program scene names maps x c h. ap (λ (m : TreeMeaning). m.value (record { scene = scene; names = names; statement = statement }) (length old - first)) (meaning_of-Number kind cell);
 }
@@ -82,6 +84,7 @@ computes-input inputs holder old statement first kind n is = record {
   appended = sym (append-nil old);
   count = sym (ap (λ m. m.operations) (meaning_of-Input kind n));
   before = tt;
+  last = λ some. absurd (let none = ap (λ (m : TreeMeaning). m.operations) (meaning_of-Input kind n) in omega (arith, some, none));
   kind = λ program x. ap (λ ins. option_map (λ i. i.kind) (slice_get ins n)) x.inputs_are ∙ is ∙ ap (λ m. Some m.kind) (sym (meaning_of-Input kind n));
   value = λ program scene names maps x c h. ap (λ (m : TreeMeaning). m.value (record { scene = scene; names = names; statement = statement }) (length old - first)) (meaning_of-Input kind n);
 }
@@ -93,6 +96,7 @@ computes-name inputs holder old statement first kind name k held below is = reco
   appended = sym (append-nil old);
   count = sym (ap (λ m. m.operations) (meaning_of-Name kind name));
   before = below;
+  last = λ some. absurd (let none = ap (λ (m : TreeMeaning). m.operations) (meaning_of-Name kind name) in omega (arith, some, none));
   kind = λ program x. ap (λ ops. option_map (λ o. o.kind) (slice_get ops k)) x.initial_is ∙ ap (option_map (λ o. o.kind)) (get-left old x.more k below) ∙ is ∙ ap (λ m. Some m.kind) (sym (meaning_of-Name kind name));
   value = λ program scene names maps x c h. ap (λ (m : TreeMeaning). m.value (record { scene = scene; names = names; statement = statement }) (length old - first)) (meaning_of-Name kind name) ∙ ap Ok (h name k held).1;
 }
@@ -181,6 +185,7 @@ computes-call inputs holder old mid first k op args xs o hf h4 ho hk hn has a =
       appended = ap (λ ops. ops ++ o ∷ []) a.appended ∙ append_assoc old a.added (o ∷ []);
       count = length-append a.added (o ∷ []) ∙ ap (λ n. n + 1) la ∙ sym (ap (λ m. m.operations) (meaning_of-Call k op args));
       before = omega (arith, lo);
+      last = λ some. let e : length mid ≡ length (mid ++ o ∷ []) - 1 = omega (arith, lo) in ap Initial e;
       kind = λ program e. ap (λ ops. option_map (λ p. p.kind) (slice_get ops (length mid))) (e.initial_is ∙ append_assoc mid (o ∷ []) e.more) ∙ ap (option_map (λ p. p.kind)) (get-seam mid o e.more) ∙ ap Some hk ∙ ap (λ m. Some m.kind) (sym (meaning_of-Call k op args));
       value = λ program scene names maps e n h.
           let site : Site = record { scene = scene; names = names; statement = o.statement } in

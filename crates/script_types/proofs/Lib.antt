@@ -7,6 +7,7 @@ mod FitLemmas
 mod Fronts
 mod GivesLaws
 mod LawLemmas
+mod LineLemmas
 mod LowerLemmas
 mod NamesLemmas
 mod NumberLemmas

@@ -1,3 +1,4 @@
+pub mod LineValues
 pub mod Look
 pub mod Scopes
 pub mod Values

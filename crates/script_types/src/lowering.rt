@@ -1,7 +1,10 @@
-ghost use Rattle.std.specs.Prelude.{◌≡◌, IfOk};
+ghost use Rattle.std.specs.Prelude.{◌≡◌, [], IfOk};
 ghost use Rattle.script_types.specs.Answers.{IsProgramOf, Lowers};
+ghost use Rattle.script_types.specs.Lowered.{inputs_of};
 ghost use Rattle.script_types.specs.Made.{IsMade};
+ghost use Rattle.script_types.specs.Values.{HasValues};
 ghost use Rattle.script_types.specs.inside.Answers.{IsSettled};
+ghost use Rattle.script_types.specs.inside.FitLines.{LinesFit};
 
 use crate::end::LowerEnd;
 use crate::program::{inputs_of, write_lines};
@@ -15,7 +18,8 @@ use std::alloc::{AllocError, Global};
 fn program_of(alloc: Global, script: &Script, settled: &Settled<'_>) -> Result<Program, AllocError>
     requires made { IsMade script.now }
     requires settled { IsSettled script.now settled.now }
-    ensures { IfOk result (λ program. IsProgramOf script.now settled.now.lines program) }
+    ensures program { IfOk result (λ program. IsProgramOf script.now settled.now.lines program) }
+    ensures values { IfOk result (λ program. LinesFit (inputs_of script.now) [] settled.now.lines → HasValues script.now settled.now.lines program) }
 {
     let inputs = inputs_of(alloc, script, settled)?;
     let written = write_lines(alloc, &settled.scope, settled.lines.as_slice())?;

@@ -3,6 +3,8 @@ ghost use Rattle.script_types.specs.Lowered.{input_of, inputs_of, output_of, tot
 ghost use Rattle.script_types.specs.Reports.{file_written};
 ghost use Rattle.script_types.specs.Statements.{operations_of};
 ghost use Rattle.script_types.specs.inside.Answers.{StandsBelow, IsLineWritten, WritesLine, is_input_in};
+ghost use Rattle.script_types.specs.inside.LineValues.{AddsValues, AreOfLines};
+ghost use Rattle.script_types.specs.inside.Look.{look};
 ghost use Rattle.script_types.specs.inside.Scopes.{binding_in};
 
 use crate::bindings::is_input;
@@ -72,7 +74,8 @@ fn write_line(
     line: &Line,
 ) -> Result<(), AllocError>
     requires { length written.old.ops + operations_of line.now.statement.value ≤ 8192 }
-    ensures { OnOk result (WritesLine written.old.ops written.old.outputs written.new.ops written.new.outputs (binding_in scope.now) statement line.now) }
+    ensures written { OnOk result (WritesLine written.old.ops written.old.outputs written.new.ops written.new.outputs (binding_in scope.now) statement line.now) }
+    ensures values { OnOk result (AddsValues (look holders.old.values) (look holders.new.values) written.old.ops written.new.ops statement line.now) }
 {
     let at = At {
         statement,
@@ -90,7 +93,8 @@ fn write_line(
 pub fn write_lines(alloc: Global, scope: &Scope<'_>, lines: &[Line]) -> Result<Written, AllocError>
     requires few { length lines.now ≤ 1000 }
     requires room { total_operations lines.now ≤ 8192 }
-    ensures { IfOk result (λ written. IsLineWritten written (binding_in scope.now) lines.now) }
+    ensures written { IfOk result (λ written. IsLineWritten written (binding_in scope.now) lines.now) }
+    ensures values { IfOk result (λ written. AreOfLines written.ops lines.now) }
 {
     let mut written = Written {
         ops: Items::new(alloc),

@@ -55,6 +55,7 @@ pub record Computes (inputs : List InputUse) (holder : List ℕ → Option ℕ)
   pub appended : new ≡ old ++ added
   pub count : length added ≡ (meaning_of t).operations
   pub before : NamesBefore (length new) x
+  pub last : 0 < (meaning_of t).operations → x ≡ Initial (length new - 1)
   pub kind : (program : Program) → Extends program inputs new → operand_kind program x ≡ Some (meaning_of t).kind
   pub value : (program : Program) (scene : Scene) (names : Environment) (maps : List WholeMap) → Extends program inputs new →
       length maps ≡ length old → HoldsMap holder names maps →
