@@ -3,7 +3,10 @@ mod CallAnswers
 mod CountLemmas
 mod EmitValues
 mod FirstUses
+mod FoundInputs
+mod FoundRows
 mod FitLemmas
+mod FitNodes
 mod Fronts
 mod GivesLaws
 mod LawLemmas
@@ -13,6 +16,7 @@ mod NamesLemmas
 mod NumberLemmas
 mod PostOrder
 mod ReportLemmas
+mod SettledFits
 mod Steps
 mod TypedCalls
 mod UnbuiltLemmas
