@@ -9,6 +9,7 @@ use Rattle.script_types.specs.Lowered.{area_number, inputs_of, as_listed, operat
 use Rattle.script_types.specs.Meaning.{meaning}
 use Rattle.script_types.specs.Names.{binding_of}
 use Rattle.script_types.specs.Unbuilt.{is_unbuilt}
+use Rattle.script_types.specs.Values.{HasValues}
 
 -- The program is that of the settled statements of a script: its inputs, its area map, one operation for each of theirs in
 -- post-order with its kind, its statement and its number, its outputs, and the last step.
@@ -19,12 +20,13 @@ pub record IsProgramOf (script : Script) (lines : List Line) (program : Program)
   pub outputs : program.outputs ≡ outputs_from (binding_of script) 1 0 lines
   pub steps : program.steps ≡ script.steps
 
--- the program of a script that is built and has no fault
+-- the program of a script that is built and has no fault: it is that of its settled statements, and has their values
 pub record IsLowered (script : Script) (program : Program) : Type 0 where
   pub built : is_unbuilt script ≡ false
   pub lines : List Line
   pub meant : meaning script ≡ Ok lines
   pub program_of : IsProgramOf script lines program
+  pub values : HasValues script lines program
 
 -- An answer is `Unbuilt` exactly where the script has something that is not built; else the first fault of meaning where
 -- there is one; else the program of its statements; or there was no memory.
