@@ -1,4 +1,4 @@
-use Rattle.std.proofs.Common.{◌≡◌, ◌+◌, ◌-◌, ◌∷◌, ◌++◌, [], List, ℕ, Result, Ok, Err, OnOk, Some, length, sym, ◌∙◌, ap, subst, if◌then◌else◌}
+use Rattle.std.proofs.Common.{◌-◌, Result, Ok, Err, OnOk, Some, length, ◌∙◌, ap, subst, if◌then◌else◌}
 use Rattle.std.specs.Str.{bytes_eq}
 use Rattle.script_types.specs.inside.FitLines.{ground_below}
 use Rattle.script_types.specs.inside.Look.{look}

@@ -51,8 +51,7 @@ loop-at-preserved c =
       values = λ inputs fit.
           let v = inv.values inputs fit in
           let here = subst (LinesFit inputs (take at lines)) left v.1 in
-          let number = ap (λ n. n + 1) (sym (length-take-le at lines (omega (arith, below)))) in
-          (
+          let number = ap (λ n. n + 1) (sym (length-take-le at lines (omega (arith, below)))) in (
             subst (HaveValues inputs (look c.write_line.new.holders.values) c.write_line.new.written.ops) (sym front) (c.in_ok-write_line.ensures.values inputs (take at lines) number here.0 v.0),
             subst (λ xs. LinesFit inputs xs rest) (sym front) here.1,
           );
