@@ -10,3 +10,5 @@ mod maps;
 mod meaning;
 #[cfg(test)]
 mod plain;
+#[cfg(test)]
+mod texts;

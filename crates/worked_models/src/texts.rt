@@ -1,0 +1,29 @@
+//! Scripts and programs of texts.
+
+use map_meaning::Program;
+use script_syntax::{Script, read_script};
+use script_types::lower;
+use std::alloc::Global;
+use std::test::Fail;
+
+/// The script of a text.
+pub fn script_of(alloc: Global, text: &str) -> Result<Script, Fail> {
+    if text.len() > 268_435_456 {
+        return Err(Fail::from("too long"));
+    }
+    match read_script(alloc, text.as_bytes()) {
+        Ok(script) => Ok(script),
+        Err(_) => Err(Fail::from("no script")),
+    }
+}
+
+/// The program of a script of one section.
+pub fn program_of(alloc: Global, script: &Script) -> Result<Program, Fail> {
+    if script.bindings.len() > 1000 || script.initial.len() > 1000 || !script.dynamic.is_empty() {
+        return Err(Fail::from("too long"));
+    }
+    match lower(alloc, script) {
+        Ok(program) => Ok(program),
+        Err(_) => Err(Fail::from("no program")),
+    }
+}
