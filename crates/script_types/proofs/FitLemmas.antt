@@ -14,7 +14,8 @@ use Rattle.map_meaning.specs.declared.tree.Tree.TheOpen.{Tree-F}
 use Rattle.map_meaning.proofs.Callers.{same_kind}
 use Rattle.script_types.specs.inside.Fits.{Ground, fits, fits_level, is_of}
 
-all-mapped : {A : Type 0} (f : A → Bool) (xs : List A) → list_all (λ b. b) (map f xs) ≡ list_all f xs
+-- a test of mapped elements
+pub all-mapped : {A : Type 0} (f : A → Bool) (xs : List A) → list_all (λ b. b) (map f xs) ≡ list_all f xs
 all-mapped f [] = refl
 all-mapped f (x ∷ xs) = ap (λ rest. f x && rest) (all-mapped f xs)
 

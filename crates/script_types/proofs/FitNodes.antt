@@ -1,13 +1,18 @@
 -- That what an expression is at its place fits: names, numbers, operands and calls.
-use Rattle.std.proofs.Common.{◌≡◌, ◌≤◌, ℕ, zero, suc, ◌+◌, Bool, true, false, not, ◌&&◌, List, [], ◌∷◌, map, length, refl, sym, ap, subst, ◌∙◌, Result, Ok, Err, if◌then◌else◌, arith}
+use Rattle.std.proofs.Common.{◌≡◌, ◌≤◌, ℕ, zero, suc, ◌+◌, Bool, true, false, not, ◌&&◌, ◌||◌, ℤ, int_le, ◌≤ℤ◌, List, [], ◌∷◌, map, length, refl, sym, ap, subst, ◌∙◌, Result, Ok, Err, if◌then◌else◌, arith}
 use Rattle.std.specs.Prelude.{⊤, Option, None, Some, option_map, slice_get, slice_index_or, nat_le, nat_lt, ◌==◌}
 use Rattle.std.specs.Option.{is_some, unwrap_or}
 use Rattle.std.specs.List.{list_all}
+use Rattle.std.proofs.lemmas.Int.{ints}
+use Rattle.std.proofs.lemmas.List.{length-map}
 use Rattle.text_base.specs.Results.{◌>>=◌}
 use Rattle.cell_values.specs.declared.cell.Cell.{Cell}
+use Rattle.cell_values.specs.declared.cell.Cell.TheVariants.{Mv, Val}
+use Rattle.cell_values.specs.Kinds.{greatest, least}
+use Rattle.cell_values.proofs.Callers.{value-from_cell}
 use Rattle.cell_values.specs.declared.cell.NumberFault.{NumberFault}
 use Rattle.cell_values.specs.declared.kind.Kind.{Kind}
-use Rattle.cell_values.specs.declared.kind.Kind.TheVariants.{Boolean, Nominal, Ordinal, Scalar, Directional, Ldd}
+use Rattle.cell_values.specs.declared.kind.Kind.TheVariants.{Nominal, Scalar, Ldd}
 use Rattle.cell_values.specs.inside.Reading.{cell_read}
 use Rattle.script_syntax.specs.declared.tree.Binding.{Binding}
 use Rattle.script_syntax.specs.declared.tree.Target.{Target}
@@ -23,7 +28,7 @@ use Rattle.map_meaning.specs.declared.row.Given.TheVariants as given
 use Rattle.map_meaning.specs.declared.table.TheConstants.{MANY_OPERANDS}
 use Rattle.map_meaning.specs.declared.tree.Tree.{Tree}
 use Rattle.map_meaning.specs.declared.tree.Tree.TheVariants as tree
-use Rattle.map_meaning.specs.Table.{allows, ask_at, given_kind, is_alike, is_kind, takes}
+use Rattle.map_meaning.specs.Table.{has_kind, row_of, allows, ask_at, given_kind, is_alike, is_kind, takes}
 use Rattle.map_meaning.specs.Trees.{meaning_of}
 use Rattle.script_types.specs.declared.fault.MeaningKind.{MeaningKind}
 use Rattle.script_types.specs.declared.fault.MeaningKind.TheVariants.{BadStackName, DrainPlace, KindMismatch, NameClash}
@@ -44,7 +49,10 @@ use Rattle.script_types.specs.Unbuilt.{is_drain_kind, is_unbuilt_word}
 use Rattle.script_types.specs.inside.Fits.{Ground, fits, is_of}
 use Rattle.script_types.proofs.CountLemmas.{meaning-call, meaning-input, meaning-name, meaning-number}
 use Rattle.script_types.proofs.FitLemmas.{both-left, both-right, fits-call, fits-input-is, fits-name-is, fits-number-is}
-use Rattle.script_types.proofs.FoundRows.{IsFound, asks-map, found-row, gives-map, is-common, takes-few}
+use Rattle.script_types.specs.inside.Sound.{are_allowed, has_kinds, is_cell, is_sound}
+use Rattle.script_types.proofs.RowKinds.{agreed-everywhere, alike-has, allowed-alike, both-are, is-alike-of, its-row, kind-itself, nested-has-kinds, row-has-kinds}
+use Rattle.script_types.proofs.SoundLemmas.{kind-of, sound-call, sound-input, sound-name, sound-number}
+use Rattle.script_types.proofs.FoundRows.{agrees-with, IsFound, asks-map, found-row, gives-map, is-common}
 
 -- ---- results
 
@@ -78,23 +86,14 @@ not-true : (b : Bool) → not b ≡ true → b ≡ false
 not-true false h = refl
 not-true true h = cc
 
--- ---- kinds
-
-pub kind-itself : (k : Kind) → is_kind k k ≡ true
-kind-itself Boolean = refl
-kind-itself Nominal = refl
-kind-itself Ordinal = refl
-kind-itself Scalar = refl
-kind-itself Directional = refl
-kind-itself Ldd = refl
-
 -- ---- what is good
 
--- the expression fits, has this kind, and is no drain map
+-- the expression fits, has this kind, is no drain map, and keeps to the table
 pub record IsGood (g : Ground) (t : Tree) (kind : Kind) : Type 0 where
   pub value : fits g t ≡ true
   pub of_kind : (meaning_of t).kind ≡ kind
   pub plain : is_kind Ldd kind ≡ false
+  pub sound : is_sound t ≡ true
 
 -- what an expression is fits, where it is a map
 abbrev pub IsGoodTyped : Ground → Typed → Type 0
@@ -128,22 +127,30 @@ ground-of s inputs = record { inputs = inputs; above = s.above }
 
 -- ---- numbers and names
 
-number-cell : (g : Ground) (kind : Kind) (r : Result Cell NumberFault) (v : Value) → is_kind Ldd kind ≡ false → cell_value kind r ≡ Ok v → IsGood g v.tree v.kind
-number-cell g kind (Ok cell) v hk h = let e : record { kind = kind; tree = tree.Number kind cell } ≡ v = cc in
-    subst (λ (w : Value). IsGood g w.tree w.kind) e (record { value = fits-number-is g kind cell; of_kind = ap (λ m. m.kind) (meaning-number kind cell); plain = hk })
-number-cell g kind (Err f) v hk h = cc
+int-test : (a b : ℤ) → a ≤ℤ b → int_le a b ≡ true
+int-test a b h = grind (arith, ints)
+
+-- a cell that is read is one of the kind
+cell-in : (kind : Kind) (text : List ℕ) (cell : Cell) → cell_read kind text ≡ Ok cell → is_cell kind cell ≡ true
+cell-in kind text Mv h = refl
+cell-in kind text (Val z) h = let v = (value-from_cell kind text z h).2.value in both-are (int_le (least kind) z) (int_le z (greatest kind)) (int-test (least kind) z v.least) (int-test z (greatest kind) v.greatest)
+
+number-cell : (g : Ground) (kind : Kind) (text : List ℕ) (r : Result Cell NumberFault) (v : Value) → cell_read kind text ≡ r → is_kind Ldd kind ≡ false → cell_value kind r ≡ Ok v → IsGood g v.tree v.kind × (kind ≡ v.kind)
+number-cell g kind text (Ok cell) v hr hk h = let e : record { kind = kind; tree = tree.Number kind cell } ≡ v = cc in
+    subst (λ (w : Value). IsGood g w.tree w.kind × (kind ≡ w.kind)) e (record { value = fits-number-is g kind cell; of_kind = ap (λ m. m.kind) (meaning-number kind cell); plain = hk; sound = sound-number kind cell ∙ cell-in kind text cell hr }, refl)
+number-cell g kind text (Err f) v hr hk h = cc
 
 -- a number of a kind
-pub number-good : (g : Ground) (kind : Kind) (text : List ℕ) (v : Value) → is_kind Ldd kind ≡ false → number_as kind text ≡ Ok v → IsGood g v.tree v.kind
-number-good g kind text v hk h = number-cell g kind (cell_read kind text) v hk h
+pub number-good : (g : Ground) (kind : Kind) (text : List ℕ) (v : Value) → is_kind Ldd kind ≡ false → number_as kind text ≡ Ok v → IsGood g v.tree v.kind × (kind ≡ v.kind)
+number-good g kind text v hk h = number-cell g kind text (cell_read kind text) v refl hk h
 
 assigned-good : (s : Scope) (inputs : List InputUse) (name : List ℕ) (t : Typed) (o : Option Kind) → IsGoodScope s inputs → s.above name ≡ o → assigned_read name o ≡ Ok t → IsGoodTyped (ground-of s inputs) t
 assigned-good s inputs name t None hs ho h = cc
 assigned-good s inputs name t (Some k) hs ho h = let e : typed.Map (record { kind = k; tree = tree.Name k name }) ≡ t = cc in
-    subst (IsGoodTyped (ground-of s inputs)) e (record { value = fits-name-is (ground-of s inputs) k name ∙ ap (λ x. is_of x k) ho ∙ kind-itself k; of_kind = ap (λ m. m.kind) (meaning-name k name); plain = hs.above name k ho })
+    subst (IsGoodTyped (ground-of s inputs)) e (record { value = fits-name-is (ground-of s inputs) k name ∙ ap (λ x. is_of x k) ho ∙ kind-itself k; of_kind = ap (λ m. m.kind) (meaning-name k name); plain = hs.above name k ho; sound = sound-name k name })
 
 input-good : (g : Ground) (role : UsedAs) (kind : Kind) (n : ℕ) → is_kind Ldd kind ≡ false → option_map (λ i. i.kind) (slice_get g.inputs n) ≡ Some kind → IsGoodTyped g (input_as role kind n)
-input-good g used.Grid kind n hk h = record { value = fits-input-is g kind n ∙ ap (λ x. is_of x kind) h ∙ kind-itself kind; of_kind = ap (λ m. m.kind) (meaning-input kind n); plain = hk }
+input-good g used.Grid kind n hk h = record { value = fits-input-is g kind n ∙ ap (λ x. is_of x kind) h ∙ kind-itself kind; of_kind = ap (λ m. m.kind) (meaning-input kind n); plain = hk; sound = sound-input kind n }
 input-good g used.Stack kind n hk h = tt
 input-good g (used.Table keys of) kind n hk h = tt
 input-good g (used.Series of) kind n hk h = tt
@@ -165,7 +172,7 @@ ok-one k = cc
 
 constant-good : (g : Ground) (o : Option Kind) (text : List ℕ) (t : Typed) → is_drain_kind o ≡ false → constant_read o text ≡ Ok t → IsGoodTyped g t
 constant-good g None text t hk h = let e : typed.Constant text ≡ t = cc in subst (IsGoodTyped g) e tt
-constant-good g (Some kind) text t hk h = let b = value-before (number_as kind text) (λ v. Ok (typed.Map v)) t h in let e : typed.Map b.0 ≡ t = ok-one b.2 in subst (IsGoodTyped g) e (number-good g kind text b.0 hk b.1)
+constant-good g (Some kind) text t hk h = let b = value-before (number_as kind text) (λ v. Ok (typed.Map v)) t h in let e : typed.Map b.0 ≡ t = ok-one b.2 in subst (IsGoodTyped g) e (number-good g kind text b.0 hk b.1).0
 
 target-good : (s : Scope) (inputs : List InputUse) (role : UsedAs) (name : List ℕ) (t : Typed) (b : Binding) (to : Target) → IsGoodScope s inputs → s.is_assigned name ≡ false → s.binding name ≡ Some b → b.target ≡ to → target_read s role name b.kind to ≡ Ok t → IsGoodTyped (ground-of s inputs) t
 target-good s inputs role name t b (target.Number text) hs ha hb ht h = constant-good (ground-of s inputs) b.kind text t (hs.bound name b hb) h
@@ -201,8 +208,16 @@ pub agreed-plain : (g : Ground) (row : Row) (i : ℕ) (ts : List Typed) → AllG
 agreed-plain g row i [] h = refl
 agreed-plain g row i (t ∷ ts) h = deciding-plain g (ask_at row i) t (first_deciding row (i + 1) ts) h.0 (agreed-plain g row (i + 1) ts h.1)
 
-map-good : (g : Ground) (kind : Kind) (text : List ℕ) (x : Argument) → is_kind Ldd kind ≡ false → number_map kind text ≡ Ok x → IsGoodArgument g x
-map-good g kind text x hk h = let b = value-before (number_as kind text) (λ v. Ok (argument.Map v)) x h in let e : argument.Map b.0 ≡ x = ok-one b.2 in subst (IsGoodArgument g) e (number-good g kind text b.0 hk b.1)
+-- the operand is a map that fits, and is allowed at its place
+record IsPlaced (g : Ground) (agreed : Kind) (asked : Ask) (x : Argument) : Type 0 where
+  good : IsGoodArgument g x
+  allowed : allows agreed asked (argument_kind x) ≡ true
+
+map-good : (g : Ground) (agreed : Kind) (asked : Ask) (kind : Kind) (text : List ℕ) (x : Argument) → is_kind Ldd kind ≡ false → allows agreed asked kind ≡ true → number_map kind text ≡ Ok x → IsPlaced g agreed asked x
+map-good g agreed asked kind text x hk ha h =
+    let b = value-before (number_as kind text) (λ v. Ok (argument.Map v)) x h in
+    let n = number-good g kind text b.0 hk b.1 in
+    subst (IsPlaced g agreed asked) (ok-one b.2) (record { good = n.0; allowed = ap (allows agreed asked) (sym n.1) ∙ ha })
 
 free-plain : (kinds : Kinds) → is_kind Ldd (kind_of_free kinds) ≡ false
 free-plain kinds = by-test kinds.scalar
@@ -211,14 +226,21 @@ free-plain kinds = by-test kinds.scalar
     by-test true = refl
     by-test false = refl
 
-free-good : (g : Ground) (agreed : Kind) (asked : Ask) (text : List ℕ) (x : Argument) → is_kind Ldd agreed ≡ false → asks-map asked ≡ true → free_at agreed asked text ≡ Ok x → IsGoodArgument g x
-free-good g agreed (ask.Only kind) text x hk ha h = map-good g kind text x (not-true (is_kind Ldd kind) ha) h
-free-good g agreed (ask.One kinds) text x hk ha h = map-good g (kind_of_free kinds) text x (free-plain kinds) h
-free-good g agreed (ask.Alike kinds) text x hk ha h = map-good g agreed text x hk h
-free-good g agreed (ask.Table kind) text x hk ha h = cc
-free-good g agreed (ask.Series kind) text x hk ha h = cc
-free-good g agreed ask.Stack text x hk ha h = cc
-free-good g agreed ask.Length text x hk ha h = cc
+free-has : (kinds : Kinds) → (kinds.scalar || kinds.nominal) ≡ true → has_kind kinds (kind_of_free kinds) ≡ true
+free-has kinds h = by-test kinds.scalar refl h
+  where
+    by-test : (b : Bool) → kinds.scalar ≡ b → (b || kinds.nominal) ≡ true → has_kind kinds (if b then Scalar else Nominal) ≡ true
+    by-test true e g = e
+    by-test false e g = g
+
+free-good : (g : Ground) (agreed : Kind) (asked : Ask) (text : List ℕ) (x : Argument) → is_kind Ldd agreed ≡ false → asks-map asked ≡ true → alike-has asked agreed ≡ true → free_at agreed asked text ≡ Ok x → IsPlaced g agreed asked x
+free-good g agreed (ask.Only kind) text x hk ha hh h = map-good g agreed (ask.Only kind) kind text x (not-true (is_kind Ldd kind) ha) (kind-itself kind) h
+free-good g agreed (ask.One kinds) text x hk ha hh h = map-good g agreed (ask.One kinds) (kind_of_free kinds) text x (free-plain kinds) (free-has kinds ha) h
+free-good g agreed (ask.Alike kinds) text x hk ha hh h = map-good g agreed (ask.Alike kinds) agreed text x hk (both-are (has_kind kinds agreed) (is_kind agreed agreed) hh (kind-itself agreed)) h
+free-good g agreed (ask.Table kind) text x hk ha hh h = cc
+free-good g agreed (ask.Series kind) text x hk ha hh h = cc
+free-good g agreed ask.Stack text x hk ha hh h = cc
+free-good g agreed ask.Length text x hk ha hh h = cc
 
 -- a table, a series or a stack stands at no such place
 no-file : (asked : Ask) (t : Typed) (x : Argument) → asks-map asked ≡ true → bound_file_at asked t ≡ Ok x → ⊥
@@ -230,29 +252,87 @@ no-file (ask.Series kind) t x ha h = cc
 no-file ask.Stack t x ha h = cc
 no-file ask.Length t x ha h = cc
 
-argument-good : (g : Ground) (agreed : Kind) (asked : Ask) (t : Typed) (x : Argument) → is_kind Ldd agreed ≡ false → asks-map asked ≡ true → IsGoodTyped g t → argument_at agreed asked t ≡ Ok x → IsGoodArgument g x
-argument-good g agreed asked (typed.Literal text) x hk ha ht h = free-good g agreed asked text x hk ha h
-argument-good g agreed asked (typed.Constant text) x hk ha ht h = free-good g agreed asked text x hk ha h
-argument-good g agreed asked (typed.Map v) x hk ha ht h = subst (IsGoodArgument g) (passed-is ((KindMismatch, not (allows agreed asked v.kind)) ∷ []) (argument.Map v) x h) ht
-argument-good g agreed asked (typed.Table kind) x hk ha ht h = absurd (no-file asked (typed.Table kind) x ha h)
-argument-good g agreed asked (typed.Series kind) x hk ha ht h = absurd (no-file asked (typed.Series kind) x ha h)
-argument-good g agreed asked (typed.Stack kind) x hk ha ht h = absurd (no-file asked (typed.Stack kind) x ha h)
+argument-good : (g : Ground) (agreed : Kind) (asked : Ask) (t : Typed) (x : Argument) → is_kind Ldd agreed ≡ false → asks-map asked ≡ true → alike-has asked agreed ≡ true → IsGoodTyped g t → argument_at agreed asked t ≡ Ok x → IsPlaced g agreed asked x
+argument-good g agreed asked (typed.Literal text) x hk ha hh ht h = free-good g agreed asked text x hk ha hh h
+argument-good g agreed asked (typed.Constant text) x hk ha hh ht h = free-good g agreed asked text x hk ha hh h
+argument-good g agreed asked (typed.Map v) x hk ha hh ht h = subst (IsPlaced g agreed asked) (passed-is ((KindMismatch, not (allows agreed asked v.kind)) ∷ []) (argument.Map v) x h) (record { good = ht; allowed = not-not (allows agreed asked v.kind) (passed-test (KindMismatch, not (allows agreed asked v.kind)) [] (argument.Map v) x h) })
+argument-good g agreed asked (typed.Table kind) x hk ha hh ht h = absurd (no-file asked (typed.Table kind) x ha h)
+argument-good g agreed asked (typed.Series kind) x hk ha hh ht h = absurd (no-file asked (typed.Series kind) x ha h)
+argument-good g agreed asked (typed.Stack kind) x hk ha hh ht h = absurd (no-file asked (typed.Stack kind) x ha h)
 
--- operands at their places are maps, as many as there were
-pub arguments-good : (g : Ground) (row : Row) (agreed : Kind) (i : ℕ) (ts : List Typed) (xs : List Argument) → ((j : ℕ) → asks-map (ask_at row j) ≡ true) → is_kind Ldd agreed ≡ false → AllGood g ts → arguments_at row agreed i ts ≡ Ok xs → AllMaps g xs × (length xs ≡ length ts)
-arguments-good g row agreed i [] xs hp hk ht h = let e : [] ≡ xs = cc in subst (λ ys. AllMaps g ys × (length ys ≡ 0)) e (tt, refl)
-arguments-good g row agreed i (t ∷ ts) xs hp hk ht h =
+-- operands at their places are maps, as many as there were, and allowed
+pub record ArePlaced (g : Ground) (row : Row) (agreed : Kind) (i : ℕ) (ts : List Typed) (xs : List Argument) : Type 0 where
+  pub maps : AllMaps g xs
+  pub count : length xs ≡ length ts
+  pub allowed : are_allowed row agreed i (map argument_kind xs) ≡ true
+
+pub arguments-good : (g : Ground) (row : Row) (agreed : Kind) (i : ℕ) (ts : List Typed) (xs : List Argument) → ((j : ℕ) → asks-map (ask_at row j) ≡ true) → ((j : ℕ) → alike-has (ask_at row j) agreed ≡ true) → is_kind Ldd agreed ≡ false → AllGood g ts → arguments_at row agreed i ts ≡ Ok xs → ArePlaced g row agreed i ts xs
+arguments-good g row agreed i [] xs hp hh hk ht h = subst (ArePlaced g row agreed i []) (ok-one h) (record { maps = tt; count = refl; allowed = refl })
+arguments-good g row agreed i (t ∷ ts) xs hp hh hk ht h =
     let b = value-before (argument_at agreed (ask_at row i) t) (λ x. arguments_at row agreed (i + 1) ts >>= λ ys. Ok (x ∷ ys)) xs h in
     let c = value-before (arguments_at row agreed (i + 1) ts) (λ ys. Ok (b.0 ∷ ys)) xs b.2 in
-    let first = argument-good g agreed (ask_at row i) t b.0 hk (hp i) ht.0 b.1 in
-    let rest = arguments-good g row agreed (i + 1) ts c.0 hp hk ht.1 c.1 in
-    subst (λ ys. AllMaps g ys × (length ys ≡ suc (length ts))) (ok-one c.2) ((first, rest.0), ap suc rest.1)
+    let first = argument-good g agreed (ask_at row i) t b.0 hk (hp i) (hh i) ht.0 b.1 in
+    let rest = arguments-good g row agreed (i + 1) ts c.0 hp hh hk ht.1 c.1 in
+    subst (ArePlaced g row agreed i (t ∷ ts)) (ok-one c.2) (record {
+      maps = (first.good, rest.maps);
+      count = ap suc rest.count;
+      allowed = both-are (allows agreed (ask_at row i) (argument_kind b.0)) (are_allowed row agreed (i + 1) (map argument_kind c.0)) first.allowed rest.allowed;
+    })
 
--- their maps fit
-maps-fit : (g : Ground) (xs : List Argument) → AllMaps g xs → (list_all (fits g) (maps_of xs) ≡ true) × (length (maps_of xs) ≡ length xs)
-maps-fit g [] h = (refl, refl)
-maps-fit g (argument.Map v ∷ xs) h = let i = maps-fit g xs h.1 in (ap (λ b. b && list_all (fits g) (maps_of xs)) h.0.value ∙ i.0, ap suc i.1)
+-- the maps of operands fit, keep to the table, and have the kinds of the operands
+pub record MapsFit (g : Ground) (xs : List Argument) : Type 0 where
+  pub fit : list_all (fits g) (maps_of xs) ≡ true
+  pub sound : list_all is_sound (maps_of xs) ≡ true
+  pub count : length (maps_of xs) ≡ length xs
+  pub kinds : map kind-of (maps_of xs) ≡ map argument_kind xs
+
+maps-fit : (g : Ground) (xs : List Argument) → AllMaps g xs → MapsFit g xs
+maps-fit g [] h = record { fit = refl; sound = refl; count = refl; kinds = refl }
+maps-fit g (argument.Map v ∷ xs) h = let i = maps-fit g xs h.1 in record {
+  fit = both-are (fits g v.tree) (list_all (fits g) (maps_of xs)) h.0.value i.fit;
+  sound = both-are (is_sound v.tree) (list_all is_sound (maps_of xs)) h.0.sound i.sound;
+  count = ap suc i.count;
+  kinds = ap (λ k. k ∷ map kind-of (maps_of xs)) h.0.of_kind ∙ ap (λ ks. v.kind ∷ ks) i.kinds;
+}
 maps-fit g (argument.Other kind ∷ xs) h = absurd h.0
+
+-- ---- what operands agree in
+
+-- a kind that decides is one that its place asks for
+deciding-has : (row : Row) (agreed : Kind) (asked : Ask) (t : Typed) (x : Argument) (k : Kind) → deciding asked t ≡ Some k → argument_at agreed asked t ≡ Ok x → is-alike-of asked k ≡ true
+deciding-has row agreed (ask.Alike kinds) (typed.Map v) x k hd h =
+    let e : v.kind ≡ k = cc in
+    ap (has_kind kinds) (sym e) ∙ both-left (has_kind kinds v.kind) (is_kind agreed v.kind) (not-not (allows agreed (ask.Alike kinds) v.kind) (passed-test (KindMismatch, not (allows agreed (ask.Alike kinds) v.kind)) [] (argument.Map v) x h))
+deciding-has row agreed _ _ x k hd h = cc
+
+-- the first that decides stands at such a place
+first-has : (row : Row) (agreed : Kind) (i : ℕ) (ts : List Typed) (xs : List Argument) (k : Kind) → first_deciding row i ts ≡ Some k → arguments_at row agreed i ts ≡ Ok xs → (j : ℕ) × (is-alike-of (ask_at row j) k ≡ true)
+first-has row agreed i [] xs k hd h = absurd (let z = hd in cc)
+first-has row agreed i (t ∷ ts) xs k hd h =
+    let b = value-before (argument_at agreed (ask_at row i) t) (λ x. arguments_at row agreed (i + 1) ts >>= λ ys. Ok (x ∷ ys)) xs h in
+    let c = value-before (arguments_at row agreed (i + 1) ts) (λ ys. Ok (b.0 ∷ ys)) xs b.2 in
+    by-first (deciding (ask_at row i) t) refl b.0 b.1 (λ z. first-has row agreed (i + 1) ts c.0 k z c.1) hd
+  where
+    by-first : (o : Option Kind) → deciding (ask_at row i) t ≡ o → (x : Argument) → argument_at agreed (ask_at row i) t ≡ Ok x → (first_deciding row (i + 1) ts ≡ Some k → (j : ℕ) × (is-alike-of (ask_at row j) k ≡ true)) → or_kind o (first_deciding row (i + 1) ts) ≡ Some k → (j : ℕ) × (is-alike-of (ask_at row j) k ≡ true)
+    by-first None e x hx ih z = ih z
+    by-first (Some m) e x hx ih z = (i, deciding-has row agreed (ask_at row i) t x k (e ∙ z) hx)
+
+scalar-has : (asked : Ask) → asks-map asked ≡ true → alike-has asked Scalar ≡ true
+scalar-has (ask.Alike kinds) h = h
+scalar-has (ask.Only kind) h = refl
+scalar-has (ask.One kinds) h = refl
+scalar-has (ask.Table kind) h = refl
+scalar-has (ask.Series kind) h = refl
+scalar-has ask.Stack h = refl
+scalar-has ask.Length h = refl
+
+-- each place that asks to agree has what is agreed
+agreed-has : (row : Row) (ts : List Typed) (xs : List Argument) → ((j : ℕ) → asks-map (ask_at row j) ≡ true) → ((j : ℕ) → agrees-with (ask_at row j) row ≡ true) → arguments_at row (agreed_kind row ts) 0 ts ≡ Ok xs → (i : ℕ) → alike-has (ask_at row i) (agreed_kind row ts) ≡ true
+agreed-has row ts xs hp hg h i = by-first (first_deciding row 0 ts) (λ k e. first-has row (agreed_kind row ts) 0 ts xs k e h)
+  where
+    by-first : (o : Option Kind) → ((k : Kind) → o ≡ Some k → (j : ℕ) × (is-alike-of (ask_at row j) k ≡ true)) → alike-has (ask_at row i) (unwrap_or o Scalar) ≡ true
+    by-first None f = scalar-has (ask_at row i) (hp i)
+    by-first (Some k) f = let s = f k refl in agreed-everywhere row (ask_at row s.0) k i (hg s.0) s.1
 
 -- none has the kind of drain maps
 kind-plain : (g : Ground) (xs : List Argument) (i : ℕ) → AllMaps g xs → is_kind Ldd (slice_index_or (map argument_kind xs) i Scalar) ≡ false
@@ -268,25 +348,44 @@ given-plain g row (given.Same i) agreed xs hg hk h = kind-plain g xs i h
 
 -- ---- calls
 
--- an operation on a few operands that fit
-pub call-fits : (g : Ground) (kind : Kind) (op : Op) (ts : List Tree) → list_all (fits g) ts ≡ true → nat_le (length ts) 4 ≡ true → is_kind Ldd kind ≡ false → IsGood g (tree.Call kind op ts) kind
-call-fits g kind op ts ht hn hk = record { value = fits-call g kind op ts ∙ ap (λ b. b && nat_le (length ts) 4) ht ∙ hn; of_kind = ap (λ m. m.kind) (meaning-call kind op ts); plain = hk }
+-- an operation on a few operands that fit, with kinds of its row
+pub call-fits : (g : Ground) (kind : Kind) (op : Op) (ts : List Tree) → list_all (fits g) ts ≡ true → list_all is_sound ts ≡ true → nat_le (length ts) 4 ≡ true → has_kinds (row_of op) (map kind-of ts) kind ≡ true → is_kind Ldd kind ≡ false → IsGood g (tree.Call kind op ts) kind
+call-fits g kind op ts ht hs hn hr hk = record {
+  value = fits-call g kind op ts ∙ ap (λ b. b && nat_le (length ts) 4) ht ∙ hn;
+  of_kind = ap (λ m. m.kind) (meaning-call kind op ts);
+  plain = hk;
+  sound = sound-call kind op ts ∙ both-are (list_all is_sound ts) (has_kinds (row_of op) (map kind-of ts) kind) hs hr;
+}
 
-nested-fits : (g : Ground) (kind : Kind) (op : Op) (left : Tree) (ts : List Tree) → IsGood g left kind → list_all (fits g) ts ≡ true → IsGood g (nested_on op kind left ts) kind
-nested-fits g kind op left [] hl ht = hl
-nested-fits g kind op left (t ∷ ts) hl ht =
+-- all these are the kind
+AllAre : Kind → List Kind → Type 0
+AllAre kind [] = ⊤
+AllAre kind (k ∷ ks) = (k ≡ kind) × AllAre kind ks
+
+-- an operation on two operands of its kind
+pair-fits : (g : Ground) (kind : Kind) (op : Op) (t u : Tree) → fits g t ≡ true → is_sound t ≡ true → kind-of t ≡ kind → fits g u ≡ true → is_sound u ≡ true → kind-of u ≡ kind → has_kinds (row_of op) (kind ∷ kind ∷ []) kind ≡ true → is_kind Ldd kind ≡ false → IsGood g (tree.Call kind op (t ∷ u ∷ [])) kind
+pair-fits g kind op t u ht st kt hu su ku hr hk = call-fits g kind op (t ∷ u ∷ [])
+    (both-are (fits g t) (fits g u && true) ht (both-are (fits g u) true hu refl)) (both-are (is_sound t) (is_sound u && true) st (both-are (is_sound u) true su refl)) refl
+    (ap (λ k. has_kinds (row_of op) (k ∷ kind-of u ∷ []) kind) kt ∙ ap (λ k. has_kinds (row_of op) (kind ∷ k ∷ []) kind) ku ∙ hr) hk
+
+nested-fits : (g : Ground) (kind : Kind) (op : Op) (left : Tree) (ts : List Tree) → IsGood g left kind → list_all (fits g) ts ≡ true → list_all is_sound ts ≡ true → AllAre kind (map kind-of ts) → has_kinds (row_of op) (kind ∷ kind ∷ []) kind ≡ true → IsGood g (nested_on op kind left ts) kind
+unfolding AllAre
+nested-fits g kind op left [] hl ht hs ha hr = hl
+nested-fits g kind op left (t ∷ ts) hl ht hs ha hr =
     nested-fits g kind op (tree.Call kind op (left ∷ t ∷ [])) ts
-    (call-fits g kind op (left ∷ t ∷ []) (ap (λ b. b && (fits g t && true)) hl.value ∙ ap (λ b. b && true) (both-left (fits g t) (list_all (fits g) ts) ht)) refl hl.plain)
-    (both-right (fits g t) (list_all (fits g) ts) ht)
+    (pair-fits g kind op left t hl.value hl.sound hl.of_kind (both-left (fits g t) (list_all (fits g) ts) ht) (both-left (is_sound t) (list_all is_sound ts) hs) ha.0 hr hl.plain)
+    (both-right (fits g t) (list_all (fits g) ts) ht) (both-right (is_sound t) (list_all is_sound ts) hs) ha.1 hr
 
-nested-good : (g : Ground) (kind : Kind) (op : Op) (ts : List Tree) → list_all (fits g) ts ≡ true → 2 ≤ length ts → is_kind Ldd kind ≡ false → IsGood g (nested op kind ts) kind
-nested-good g kind op [] ht hn hk = absurd (omega (arith, hn))
-nested-good g kind op (t ∷ []) ht hn hk = absurd (omega (arith, hn))
-nested-good g kind op (t ∷ u ∷ ts) ht hn hk =
+nested-good : (g : Ground) (kind : Kind) (op : Op) (ts : List Tree) → list_all (fits g) ts ≡ true → list_all is_sound ts ≡ true → AllAre kind (map kind-of ts) → has_kinds (row_of op) (kind ∷ kind ∷ []) kind ≡ true → 2 ≤ length ts → is_kind Ldd kind ≡ false → IsGood g (nested op kind ts) kind
+unfolding AllAre
+nested-good g kind op [] ht hs ha hr hn hk = absurd (omega (arith, hn))
+nested-good g kind op (t ∷ []) ht hs ha hr hn hk = absurd (omega (arith, hn))
+nested-good g kind op (t ∷ u ∷ ts) ht hs ha hr hn hk =
     let ht1 = both-right (fits g t) (fits g u && list_all (fits g) ts) ht in
+    let hs1 = both-right (is_sound t) (is_sound u && list_all is_sound ts) hs in
     nested-fits g kind op (tree.Call kind op (t ∷ u ∷ [])) ts
-    (call-fits g kind op (t ∷ u ∷ []) (ap (λ b. b && (fits g u && true)) (both-left (fits g t) (fits g u && list_all (fits g) ts) ht) ∙ ap (λ b. b && true) (both-left (fits g u) (list_all (fits g) ts) ht1)) refl hk)
-    (both-right (fits g u) (list_all (fits g) ts) ht1)
+    (pair-fits g kind op t u (both-left (fits g t) (fits g u && list_all (fits g) ts) ht) (both-left (is_sound t) (is_sound u && list_all is_sound ts) hs) ha.0 (both-left (fits g u) (list_all (fits g) ts) ht1) (both-left (is_sound u) (list_all is_sound ts) hs1) ha.1.0 hr hk)
+    (both-right (fits g u) (list_all (fits g) ts) ht1) (both-right (is_sound u) (list_all is_sound ts) hs1) ha.1.1 hr
 
 few-of : (least most n : ℕ) → (nat_le least n && nat_le n most) ≡ true → nat_le most 4 ≡ true → nat_le n 4 ≡ true
 few-of least most n h k = let m = both-right (nat_le least n) (nat_le n most) h in grind (arith, m, k)
@@ -294,25 +393,62 @@ few-of least most n h k = let m = both-right (nat_le least n) (nat_le n most) h 
 two-of : (least most n : ℕ) (more : Bool) → (nat_le least n && nat_le n most) ≡ true → ((least == 2) && more) ≡ true → 2 ≤ n
 two-of least most n more h k = let m = both-left (nat_le least n) (nat_le n most) h in let l = both-left (least == 2) more k in grind (arith, m, l)
 
--- an operation on maps that fit
-pub tree-good : (g : Ground) (row : Row) (kind : Kind) (ts : List Tree) → takes-few row ≡ true → takes row (length ts) ≡ true → list_all (fits g) ts ≡ true → is_kind Ldd kind ≡ false → IsGood g (call_tree row kind ts) kind
-tree-good g row kind ts hp hn ht hk = by-test (nat_lt row.most MANY_OPERANDS) hp
-  where
-    by-test : (b : Bool) → (if b then nat_le row.most 4 else (row.least == 2) && (is_alike row.first && (is_alike row.second && is-common row.gives))) ≡ true → IsGood g (if b then tree.Call kind (op_of row.meant) ts else nested (op_of row.meant) kind ts) kind
-    by-test true h = call-fits g kind (op_of row.meant) ts ht (few-of row.least row.most (length ts) hn h) hk
-    by-test false h = nested-good g kind (op_of row.meant) ts ht (two-of row.least row.most (length ts) (is_alike row.first && (is_alike row.second && is-common row.gives)) hn h) hk
+-- where all places ask to agree, all kinds are what is agreed
+all-are : (row : Row) (agreed : Kind) (i : ℕ) (ks : List Kind) → ((j : ℕ) → is_alike (ask_at row j) ≡ true) → are_allowed row agreed i ks ≡ true → AllAre agreed ks
+unfolding AllAre
+all-are row agreed i [] ha h = tt
+all-are row agreed i (k ∷ ks) ha h = (sym (allowed-alike (ask_at row i) agreed k (ha i) (both-left (allows agreed (ask_at row i) k) (are_allowed row agreed (i + 1) ks) h)), all-are row agreed (i + 1) ks ha (both-right (allows agreed (ask_at row i) k) (are_allowed row agreed (i + 1) ks) h))
 
-row-good : (g : Ground) (row : Row) (agreed : Kind) (ts : List Typed) (t : Typed) → IsFound (length ts) row → is_kind Ldd agreed ≡ false → AllGood g ts → row_value row agreed ts ≡ Ok t → IsGoodTyped g t
-row-good g row agreed ts t hf hk ht h =
+all-alike : (row : Row) (j : ℕ) → is_alike row.first ≡ true → is_alike row.second ≡ true → is_alike row.further ≡ true → is_alike (ask_at row j) ≡ true
+all-alike row j a b c = by-place (j == 0) (j == 1)
+  where
+    by-place : (s t : Bool) → is_alike (if s then row.first else if t then row.second else row.further) ≡ true
+    by-place true t = a
+    by-place false true = b
+    by-place false false = c
+
+common-given : (gives : Given) (agreed : Kind) (ks : List Kind) → is-common gives ≡ true → given_kind gives agreed ks ≡ agreed
+common-given given.Common agreed ks h = refl
+common-given (given.Always k) agreed ks h = cc
+common-given (given.Same i) agreed ks h = cc
+
+-- an operation on maps that fit
+tree-good : (g : Ground) (row : Row) (agreed : Kind) (xs : List Argument) → IsFound (length xs) row → is_kind Ldd agreed ≡ false → ((j : ℕ) → alike-has (ask_at row j) agreed ≡ true) → AllMaps g xs → are_allowed row agreed 0 (map argument_kind xs) ≡ true → (let kind = given_kind row.gives agreed (map argument_kind xs) in IsGood g (call_tree row kind (maps_of xs)) kind)
+tree-good g row agreed xs hf hk hh hm ha = by-test (nat_lt row.most MANY_OPERANDS) refl
+  where
+    by-test : (b : Bool) → nat_lt row.most MANY_OPERANDS ≡ b → (let kind = given_kind row.gives agreed (map argument_kind xs) in IsGood g (if b then tree.Call kind (op_of row.meant) (maps_of xs) else nested (op_of row.meant) kind (maps_of xs)) kind)
+    by-test true e =
+        let kind = given_kind row.gives agreed (map argument_kind xs) in
+        let fit = maps-fit g xs hm in
+        let few = sym (ap (λ b. if b then nat_le row.most 4 else (row.least == 2) && (is_alike row.first && (is_alike row.second && (is_alike row.further && is-common row.gives)))) e) ∙ hf.few in
+        call-fits g kind (op_of row.meant) (maps_of xs) fit.fit fit.sound (few-of row.least row.most (length (maps_of xs)) (ap (takes row) fit.count ∙ hf.takes) few)
+        (ap (λ r. has_kinds r (map kind-of (maps_of xs)) kind) (its-row (length xs) row hf) ∙ ap (λ ks. has_kinds row ks kind) fit.kinds ∙ row-has-kinds row agreed (map argument_kind xs) (subst (λ n. IsFound n row) (sym (length-map xs argument_kind)) hf) e ha)
+        (given-plain g row row.gives agreed xs hf.gives hk hm)
+    by-test false e =
+        let fit = maps-fit g xs hm in
+        let few = sym (ap (λ b. if b then nat_le row.most 4 else (row.least == 2) && (is_alike row.first && (is_alike row.second && (is_alike row.further && is-common row.gives)))) e) ∙ hf.few in
+        let more = both-right (row.least == 2) (is_alike row.first && (is_alike row.second && (is_alike row.further && is-common row.gives))) few in
+        let rest = both-right (is_alike row.first) (is_alike row.second && (is_alike row.further && is-common row.gives)) more in
+        let last = both-right (is_alike row.second) (is_alike row.further && is-common row.gives) rest in
+        let alike : (j : ℕ) → is_alike (ask_at row j) ≡ true = λ j. all-alike row j (both-left (is_alike row.first) (is_alike row.second && (is_alike row.further && is-common row.gives)) more) (both-left (is_alike row.second) (is_alike row.further && is-common row.gives) rest) (both-left (is_alike row.further) (is-common row.gives) last) in
+        let is = common-given row.gives agreed (map argument_kind xs) (both-right (is_alike row.further) (is-common row.gives) last) in
+        subst (λ kind. IsGood g (nested (op_of row.meant) kind (maps_of xs)) kind) (sym is)
+        (nested-good g agreed (op_of row.meant) (maps_of xs) fit.fit fit.sound (subst (AllAre agreed) (sym fit.kinds) (all-are row agreed 0 (map argument_kind xs) alike ha))
+        (ap (λ r. has_kinds r (agreed ∷ agreed ∷ []) agreed) (its-row (length xs) row hf) ∙ nested-has-kinds row agreed e hf.few hh)
+        (two-of row.least row.most (length (maps_of xs)) (is_alike row.first && (is_alike row.second && (is_alike row.further && is-common row.gives))) (ap (takes row) fit.count ∙ hf.takes) few) hk)
+
+row-good : (g : Ground) (row : Row) (ts : List Typed) (t : Typed) → IsFound (length ts) row → AllGood g ts → row_value row (agreed_kind row ts) ts ≡ Ok t → IsGoodTyped g t
+row-good g row ts t hf ht h =
+    let agreed = agreed_kind row ts in
     let b = value-before (arguments_at row agreed 0 ts) (λ xs. Ok (typed.Map (call_value row (given_kind row.gives agreed (map argument_kind xs)) xs))) t h in
-    let all = arguments-good g row agreed 0 ts b.0 hf.asks hk ht b.1 in
-    let fit = maps-fit g b.0 all.0 in
-    subst (IsGoodTyped g) (ok-one b.2)
-    (tree-good g row (given_kind row.gives agreed (map argument_kind b.0)) (maps_of b.0) hf.few (ap (takes row) (fit.1 ∙ all.1) ∙ hf.takes) fit.0 (given-plain g row row.gives agreed b.0 hf.gives hk all.0))
+    let hk = agreed-plain g row 0 ts ht in
+    let hh = agreed-has row ts b.0 hf.asks hf.agrees b.1 in
+    let all = arguments-good g row agreed 0 ts b.0 hf.asks hh hk ht b.1 in
+    subst (IsGoodTyped g) (ok-one b.2) (tree-good g row agreed b.0 (subst (λ n. IsFound n row) (sym all.count) hf) hk hh all.maps all.allowed)
 
 by-row-good : (g : Ground) (o : Option Row) (ts : List Typed) (t : Typed) → ((row : Row) → o ≡ Some row → IsFound (length ts) row) → AllGood g ts → call_by_row o ts ≡ Ok t → IsGoodTyped g t
 by-row-good g None ts t hf ht h = cc
-by-row-good g (Some row) ts t hf ht h = row-good g row (agreed_kind row ts) ts t (hf row refl) (agreed-plain g row 0 ts ht) ht h
+by-row-good g (Some row) ts t hf ht h = row-good g row ts t (hf row refl) ht h
 
 -- a call on operands that fit
 pub call-good : (g : Ground) (section : Section) (w : Bool) (word : List ℕ) (ts : List Typed) (t : Typed) → is_unbuilt_word word ≡ false → AllGood g ts → call_read section w word ts ≡ Ok t → IsGoodTyped g t

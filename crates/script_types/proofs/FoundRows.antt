@@ -21,7 +21,7 @@ use Rattle.script_types.proofs.FitLemmas.{both-left, both-right}
 -- ---- what is read off the table, row by row
 
 -- the two tests say one
-abbrev same-test : Bool → Bool → Bool
+abbrev pub same-test : Bool → Bool → Bool
 same-test true b = b
 same-test false b = not b
 
@@ -59,7 +59,7 @@ gives-map row (given.Same i) = true
 
 -- the row takes at most four operands, or it is nested: of two operands that agree, and it gives their kind
 abbrev pub takes-few : Row → Bool
-takes-few row = if nat_lt row.most MANY_OPERANDS then nat_le row.most 4 else (row.least == 2) && (is_alike row.first && (is_alike row.second && is-common row.gives))
+takes-few row = if nat_lt row.most MANY_OPERANDS then nat_le row.most 4 else (row.least == 2) && (is_alike row.first && (is_alike row.second && (is_alike row.further && is-common row.gives)))
 
 -- the first place that asks to agree is below the least number of operands
 abbrev pub has-alike : Row → Bool

@@ -16,7 +16,9 @@ mod NamesLemmas
 mod NumberLemmas
 mod PostOrder
 mod ReportLemmas
+mod RowKinds
 mod SettledFits
+mod SoundLemmas
 mod Steps
 mod TypedCalls
 mod UnbuiltLemmas

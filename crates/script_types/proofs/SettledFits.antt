@@ -6,7 +6,7 @@ use Rattle.std.specs.Str.{bytes_eq}
 use Rattle.std.proofs.lemmas.List.Folds.{list_all-append}
 use Rattle.text_base.specs.Results.{◌>>=◌}
 use Rattle.cell_values.specs.declared.kind.Kind.{Kind}
-use Rattle.cell_values.specs.declared.kind.Kind.TheVariants.{Ldd}
+use Rattle.cell_values.specs.declared.kind.Kind.TheVariants.{Boolean, Nominal, Ordinal, Scalar, Directional, Ldd}
 use Rattle.script_syntax.specs.declared.tree.Expr.{Expr, map-Expr, roll-Expr}
 use Rattle.script_syntax.specs.declared.tree.Expr.TheVariants.{rolls-Call, rolls-Name, rolls-Number}
 use Rattle.script_syntax.specs.declared.tree.Expr.TheFolds.{ind-Expr}
@@ -19,7 +19,7 @@ use Rattle.map_meaning.specs.declared.tree.Tree.{Tree, roll-Tree}
 use Rattle.map_meaning.specs.declared.tree.Tree.TheVariants as tree
 use Rattle.map_meaning.specs.declared.tree.Tree.TheFolds.{ind-Tree}
 use Rattle.map_meaning.specs.declared.tree.Tree.TheOpen.{Tree-F}
-use Rattle.map_meaning.specs.Table.{is_kind}
+use Rattle.map_meaning.specs.Table.{is_kind, row_of}
 use Rattle.script_types.specs.declared.fault.MeaningKind.{MeaningKind}
 use Rattle.script_types.specs.declared.fault.MeaningKind.TheVariants.{DrainPlace}
 use Rattle.script_types.specs.declared.fault.Place.{Place}
@@ -40,8 +40,10 @@ use Rattle.script_types.specs.Reports.{files_read, report_checks}
 use Rattle.script_types.specs.Statements.{all_lines, asked_kind, bound_kind, counts, free_side, is_call, kind_above, line_of_value, line_read, line_with, lines_below, next_line, operations_of, right_side, scope_at, side_checks, target_checks, told_at, with_operation}
 use Rattle.script_types.specs.Typing.{Scope, call_read, number_as, or_kind, typed_as}
 use Rattle.script_types.specs.Unbuilt.{calls_unbuilt, has_unbuilt_call, is_drain_kind, is_unbuilt, is_unbuilt_word}
-use Rattle.script_types.specs.inside.Fits.{Ground}
+use Rattle.script_types.specs.inside.Fits.{Ground, fits}
 use Rattle.script_types.specs.inside.FitLines.{LineFits, LinesFit}
+use Rattle.script_types.specs.inside.Sound.{are_sound, has_kinds, is_sound}
+use Rattle.script_types.proofs.RowKinds.{both-are}
 use Rattle.script_types.proofs.CountLemmas.{count-call}
 use Rattle.script_types.proofs.FitLemmas.{both-left, both-right}
 use Rattle.script_types.proofs.FitNodes.{AllGood, IsGood, IsGoodScope, IsGoodTyped, call-fits, call-good, ground-of, name-good, number-good, ok-one, passed-is, passed-test, value-before}
@@ -86,7 +88,7 @@ expression-good s inputs hs = ind-Expr (GoodAt s inputs) (λ x y is. subst (λ z
 free-good : (g : Ground) (asked : Kind) (text : List ℕ) (v : Value) → free_side asked text ≡ Ok v → IsGood g v.tree v.kind
 free-good g asked text v h =
     let b = value-before (passed ((DrainPlace, is_kind Ldd asked) ∷ []) text) (λ t. number_as asked t) v h in
-    number-good g asked b.0 v (passed-test (DrainPlace, is_kind Ldd asked) [] text b.0 b.1) b.2
+    (number-good g asked b.0 v (passed-test (DrainPlace, is_kind Ldd asked) [] text b.0 b.1) b.2).0
 
 side-good : (g : Ground) (asked : Kind) (t : Typed) (v : Value) → IsGoodTyped g t → right_side asked t ≡ Ok v → IsGood g v.tree v.kind
 side-good g asked (typed.Literal text) v ht h = free-good g asked text v h
@@ -110,18 +112,29 @@ pub record HasValue (g : Ground) (t : Tree) (kind : Kind) : Type 0 where
   pub good : IsGood g t kind
   pub operation : 0 < operations_of t
 
+-- a copy keeps to the table where it is of no drain map
+copy-kinds : (kind : Kind) → is_kind Ldd kind ≡ false → has_kinds (row_of CopyOf) (kind ∷ []) kind ≡ true
+unfolding row_of
+copy-kinds Boolean h = refl
+copy-kinds Nominal h = refl
+copy-kinds Ordinal h = refl
+copy-kinds Scalar h = refl
+copy-kinds Directional h = refl
+copy-kinds Ldd h = cc
+
 with-good : (g : Ground) (t : Tree) (kind : Kind) → IsGood g t kind → HasValue g (with_operation kind t) kind
 with-good g t kind h = by-test (is_call t) (is_kind Ldd kind) refl h.plain
   where
     by-test : (c l : Bool) → is_call t ≡ c → l ≡ false → HasValue g (if c || l then t else tree.Call kind CopyOf (t ∷ [])) kind
     by-test true l hc hl = record { good = h; operation = call-counts t hc }
     by-test false true hc hl = cc
-    by-test false false hc hl = let c = count-call kind CopyOf (t ∷ []) in record { good = call-fits g kind CopyOf (t ∷ []) (ap (λ b. b && true) h.value) refl h.plain; operation = omega (arith, c) }
+    by-test false false hc hl = let c = count-call kind CopyOf (t ∷ []) in record { good = call-fits g kind CopyOf (t ∷ []) (both-are (fits g t) true h.value refl) (both-are (is_sound t) true h.sound refl) refl (ap (λ k. has_kinds (row_of CopyOf) (k ∷ []) kind) h.of_kind ∙ copy-kinds kind h.plain) h.plain; operation = omega (arith, c) }
 
 -- a settled line fits, and has no drain map
 pub record IsGoodLine (g : Ground) (l : Line) : Type 0 where
   pub fits : LineFits g l
   pub plain : is_kind Ldd l.kind ≡ false
+  pub sound : is_sound l.statement.value ≡ true
 
 value-line : (s : Scope) (inputs : List InputUse) (before : ℕ) (st : Statement) (v : Value) (l : Line) → IsGood (ground-of s inputs) v.tree v.kind → line_of_value s before st v ≡ Ok l → IsGoodLine (ground-of s inputs) l
 value-line s inputs before st v l hv h =
@@ -130,7 +143,7 @@ value-line s inputs before st v l hv h =
     let f = passed-is (target_checks s before st v.kind b.0) (line_with s.section st v.kind b.0) l b.2 in
     let w = with-good (ground-of s inputs) v.tree v.kind hv in
     subst (IsGoodLine (ground-of s inputs)) (ap (line_with s.section st v.kind) e ∙ f)
-    (record { fits = record { value = w.good.value; kind = w.good.of_kind; operation = w.operation }; plain = w.good.plain })
+    (record { fits = record { value = w.good.value; kind = w.good.of_kind; operation = w.operation }; plain = w.good.plain; sound = w.good.sound })
 
 -- a statement without an unbuilt call
 line-good : (s : Scope) (inputs : List InputUse) (before : ℕ) (st : Statement) (l : Line) → IsGoodScope s inputs → calls_unbuilt st.expr ≡ false → line_read s before st ≡ Ok l → IsGoodLine (ground-of s inputs) l
@@ -143,16 +156,16 @@ line-good s inputs before st l hs hu h =
 
 -- ---- all statements
 
--- no statement has a drain map
+-- no statement has a drain map, and each keeps to the table
 abbrev is-plain-line : Line → Bool
-is-plain-line l = not (is_kind Ldd l.kind)
+is-plain-line l = not (is_kind Ldd l.kind) && is_sound l.statement.value
 
 abbrev NoDrains : List Line → Type 0
 NoDrains lines = list_all is-plain-line lines ≡ true
 
 above-plain : (lines : List Line) (name : List ℕ) (k : Kind) → NoDrains lines → kind_above lines name ≡ Some k → is_kind Ldd k ≡ false
 above-plain [] name k hd h = cc
-above-plain (l ∷ ls) name k hd h = by-later (kind_above ls name) (bytes_eq name l.statement.target) (above-plain ls name k (both-right (is-plain-line l) (list_all is-plain-line ls) hd)) (not-true (is_kind Ldd l.kind) (both-left (is-plain-line l) (list_all is-plain-line ls) hd)) h
+above-plain (l ∷ ls) name k hd h = by-later (kind_above ls name) (bytes_eq name l.statement.target) (above-plain ls name k (both-right (is-plain-line l) (list_all is-plain-line ls) hd)) (not-true (is_kind Ldd l.kind) (both-left (not (is_kind Ldd l.kind)) (is_sound l.statement.value) (both-left (is-plain-line l) (list_all is-plain-line ls) hd))) h
   where
     not-true : (b : Bool) → not b ≡ true → b ≡ false
     not-true false g = refl
@@ -180,8 +193,8 @@ pub record Follow (script : Script) (above lines : List Line) : Type 0 where
   pub fit : LinesFit (inputs_of script) above rest
   pub plain : NoDrains lines
 
-plain-more : (lines : List Line) (l : Line) → NoDrains lines → is_kind Ldd l.kind ≡ false → NoDrains (lines ++ l ∷ [])
-plain-more lines l hd hl = list_all-append is-plain-line lines (l ∷ []) ∙ ap (λ b. b && (not (is_kind Ldd l.kind) && true)) hd ∙ ap (λ b. not b && true) hl
+plain-more : (g : Ground) (lines : List Line) (l : Line) → NoDrains lines → IsGoodLine g l → NoDrains (lines ++ l ∷ [])
+plain-more g lines l hd h = list_all-append is-plain-line lines (l ∷ []) ∙ both-are (list_all is-plain-line lines) (is-plain-line l && true) hd (both-are (is-plain-line l) true (both-are (not (is_kind Ldd l.kind)) (is_sound l.statement.value) (ap not h.plain) h.sound) refl)
 
 follow-on : (script : Script) (section : Section) (above lines : List Line) (ss : List Statement) → list_any (λ b. is_drain_kind b.kind) script.bindings ≡ false → has_unbuilt_call ss ≡ false → NoDrains above → lines_below script section above ss ≡ Ok lines → Follow script above lines
 follow-on script section above lines [] hb hu hd h = let z : above ≡ lines = cc in record { rest = []; split = sym z ∙ sym (append-nil above); fit = tt; plain = ap (list_all is-plain-line) (sym z) ∙ hd }
@@ -189,14 +202,23 @@ follow-on script section above lines (s ∷ ss) hb hu hd h =
     let b = value-before (next_line script section above s) (λ l. lines_below script section (above ++ l ∷ []) ss) lines h in
     let read = told-ok (place.Statement (length above + 1)) (line_read (scope_at script section above) (counts section above) s) b.0 b.1 in
     let good = line-good (scope_at script section above) (inputs_of script) (counts section above) s b.0 (scope-good script section above hb hd) (neither-left (calls_unbuilt s.expr) (has_unbuilt_call ss) hu) read in
-    let i = follow-on script section (above ++ b.0 ∷ []) lines ss hb (neither-right (calls_unbuilt s.expr) (has_unbuilt_call ss) hu) (plain-more above b.0 hd good.plain) b.2 in
+    let i = follow-on script section (above ++ b.0 ∷ []) lines ss hb (neither-right (calls_unbuilt s.expr) (has_unbuilt_call ss) hu) (plain-more (ground-of (scope_at script section above) (inputs_of script)) above b.0 hd good) b.2 in
     record { rest = b.0 ∷ i.rest; split = i.split ∙ append_assoc above (b.0 ∷ []) i.rest; fit = (good.fits, i.fit); plain = i.plain }
 
 fit-append : (inputs : List InputUse) (above xs ys : List Line) → LinesFit inputs above xs → LinesFit inputs (above ++ xs) ys → LinesFit inputs above (xs ++ ys)
 fit-append inputs above [] ys hx hy = subst (λ a. LinesFit inputs a ys) (append-nil above) hy
 fit-append inputs above (x ∷ xs) ys hx hy = (hx.0, fit-append inputs (above ++ x ∷ []) xs ys hx.1 (subst (λ a. LinesFit inputs a ys) (sym (append_assoc above (x ∷ []) xs)) hy))
 
-all-fit : (script : Script) (lines : List Line) → is_unbuilt script ≡ false → all_lines script ≡ Ok lines → LinesFit (inputs_of script) [] lines
+sound-of : (lines : List Line) → NoDrains lines → are_sound lines ≡ true
+sound-of [] h = refl
+sound-of (l ∷ ls) h = both-are (is_sound l.statement.value) (are_sound ls) (both-right (not (is_kind Ldd l.kind)) (is_sound l.statement.value) (both-left (is-plain-line l) (list_all is-plain-line ls) h)) (sound-of ls (both-right (is-plain-line l) (list_all is-plain-line ls) h))
+
+-- the statements fit, and keep to the table
+record AreGood (script : Script) (lines : List Line) : Type 0 where
+  fit : LinesFit (inputs_of script) [] lines
+  sound : are_sound lines ≡ true
+
+all-fit : (script : Script) (lines : List Line) → is_unbuilt script ≡ false → all_lines script ≡ Ok lines → AreGood script lines
 all-fit script lines hu h =
     let bindings = list_any (λ b. is_drain_kind b.kind) script.bindings in
     let first = neither-left (nat_lt 0 script.steps || bindings || has_unbuilt_call script.initial) (has_unbuilt_call script.dynamic) hu in
@@ -205,15 +227,14 @@ all-fit script lines hu h =
     let b = value-before (lines_below script Initial [] script.initial) (λ ls. lines_below script Dynamic ls script.dynamic) lines h in
     let i = follow-on script Initial [] b.0 script.initial hb (neither-right (nat_lt 0 script.steps || bindings) (has_unbuilt_call script.initial) first) refl b.1 in
     let j = follow-on script Dynamic b.0 lines script.dynamic hb (neither-right (nat_lt 0 script.steps || bindings || has_unbuilt_call script.initial) (has_unbuilt_call script.dynamic) hu) i.plain b.2 in
-    subst (LinesFit (inputs_of script) []) (ap (λ x. x ++ j.rest) (sym i.split) ∙ sym j.split) (fit-append (inputs_of script) [] i.rest j.rest i.fit (subst (λ a. LinesFit (inputs_of script) a j.rest) i.split j.fit))
+    record { sound = sound-of lines j.plain; fit = subst (LinesFit (inputs_of script) []) (ap (λ x. x ++ j.rest) (sym i.split) ∙ sym j.split) (fit-append (inputs_of script) [] i.rest j.rest i.fit (subst (λ a. LinesFit (inputs_of script) a j.rest) i.split j.fit)) }
 
-lines-from : (script s t : Script) (lines ls : List Line) → is_unbuilt script ≡ false → script ≡ s → s ≡ t → all_lines t ≡ Ok ls → ls ≡ lines → LinesFit (inputs_of script) [] lines
+lines-from : (script s t : Script) (lines ls : List Line) → is_unbuilt script ≡ false → script ≡ s → s ≡ t → all_lines t ≡ Ok ls → ls ≡ lines → AreGood script lines
 lines-from script s t lines ls hu hs ht h he = all-fit script lines hu (ap all_lines (hs ∙ ht) ∙ h ∙ ap (λ x. Ok x) he)
 
--- the settled statements of a script that is built fit where they stand
-pub lines-fit : (script : Script) (lines : List Line) → is_unbuilt script ≡ false → meaning script ≡ Ok lines → LinesFit (inputs_of script) [] lines
+lines-good : (script : Script) (lines : List Line) → is_unbuilt script ≡ false → meaning script ≡ Ok lines → AreGood script lines
 unfolding meaning
-lines-fit script lines hu h =
+lines-good script lines hu h =
     let after = λ (s : Script). passed (area_checks (binding_of s s.area) (is_assigned s s.area)) s >>= λ t. all_lines t >>= λ ls. passed (report_checks (binding_of t) (files_read t) 0 ls) ls in
     let b = value-before (passed (binding_checks [] script.bindings) script) after lines h in
     let c = value-before (passed (area_checks (binding_of b.0 b.0.area) (is_assigned b.0 b.0.area)) b.0) (λ t. all_lines t >>= λ ls. passed (report_checks (binding_of t) (files_read t) 0 ls) ls) lines b.2 in
@@ -221,3 +242,11 @@ lines-fit script lines hu h =
     lines-from script b.0 c.0 lines d.0 hu (passed-is (binding_checks [] script.bindings) script b.0 b.1)
     (passed-is (area_checks (binding_of b.0 b.0.area) (is_assigned b.0 b.0.area)) b.0 c.0 c.1) d.1
     (passed-is (report_checks (binding_of c.0) (files_read c.0) 0 d.0) d.0 lines d.2)
+
+-- the settled statements of a script that is built fit where they stand
+pub lines-fit : (script : Script) (lines : List Line) → is_unbuilt script ≡ false → meaning script ≡ Ok lines → LinesFit (inputs_of script) [] lines
+lines-fit script lines hu h = (lines-good script lines hu h).fit
+
+-- and keep to the table
+pub lines-sound : (script : Script) (lines : List Line) → is_unbuilt script ≡ false → meaning script ≡ Ok lines → are_sound lines ≡ true
+lines-sound script lines hu h = (lines-good script lines hu h).sound

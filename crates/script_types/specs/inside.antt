@@ -5,3 +5,4 @@ pub mod Values
 pub mod Answers
 pub mod FitLines
 pub mod Fits
+pub mod Sound
