@@ -173,6 +173,13 @@ last-run program scene maps ps o n (Ok d) vs xs own hr hn hv ho =
     told (Err f) k = refl
     told (Ok m) k = ap Ok (sym (ap (λ j. nth (d.initial ++ m ∷ []) j) (sym k) ∙ get_or-append_seam d.initial m [] []))
 
+-- the kinds of an operation's operands are those of the list
+pub kinds-are : (program : Program) (o : Operation) (xs : List Operand) (kinds : List Kind) → HasOperands o xs → map (operand_kind program) xs ≡ map Some kinds → length xs ≤ 4 → kinds_of program o ≡ kinds
+kinds-are program o xs kinds has h l = ap (filter_map (operand_kind program)) (in-four has) ∙ kinds-four (operand_kind program) xs kinds refl h l
+  where
+    in-four : HasOperands o xs → operands_of o ≡ four xs
+    in-four has = let a = has.a in let b = has.b in let c = has.c in let d = has.d in cc
+
 -- an operation on operands that are computed
 pub computes-call : (inputs : List InputUse) (holder : List ℕ → Option ℕ) (old mid : List Operation) (first : ℕ) (k : Kind) (op : Op) (args : List Tree) (xs : List Operand) (o : Operation) → first ≤ length old → length args ≤ 4 → o.op ≡ op → o.kind ≡ k → o.number ≡ length mid - first + 1 → HasOperands o xs → ComputesAll inputs holder old mid o.statement first args xs → Computes inputs holder old (mid ++ o ∷ []) o.statement first (tree.Call k op args) (Initial (length mid))
 computes-call inputs holder old mid first k op args xs o hf h4 ho hk hn has a =
@@ -198,12 +205,6 @@ computes-call inputs holder old mid first k op args xs o hf h4 ho hk hn has a =
           ∙ last-run program scene maps a.added o (length mid) (operation_values program scene (whole_span program) (record { initial = maps }) a.added) (values_from_left (map meaning_of args) site b) xs (λ vs. applied site op kinds vs (b + operations_in (map meaning_of args) + 1)) refl (ap (λ j. j + length a.added) n ∙ sym lm) (a.values program scene names maps less n h) (λ d. ap (λ j. applied site op kinds (map (operand_map scene d.initial) xs) j) number ∙ ap (λ q. applied site q kinds (map (operand_map scene d.initial) xs) o.number) (sym ho) ∙ applied-is program scene names d.initial o kinds xs has same)
           ∙ ap (λ r. r >>= λ after. Ok (operand_map scene after.initial (Initial (length mid)))) (sym (operation_values-append program scene (whole_span program) (record { initial = maps }) a.added (o ∷ [])));
     }
-  where
-    kinds-are : (program : Program) (o : Operation) (xs : List Operand) (kinds : List Kind) → HasOperands o xs → map (operand_kind program) xs ≡ map Some kinds → length xs ≤ 4 → kinds_of program o ≡ kinds
-    kinds-are program o xs kinds has h l = ap (filter_map (operand_kind program)) (in-four has) ∙ kinds-four (operand_kind program) xs kinds refl h l
-      where
-        in-four : HasOperands o xs → operands_of o ≡ four xs
-        in-four has = let a = has.a in let b = has.b in let c = has.c in let d = has.d in cc
 
 -- ---- what is known of names
 

@@ -7,6 +7,7 @@ mod FoundInputs
 mod FoundRows
 mod FitLemmas
 mod FitNodes
+mod FormLemmas
 mod Fronts
 mod GivesLaws
 mod LawLemmas

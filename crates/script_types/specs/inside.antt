@@ -6,3 +6,4 @@ pub mod Answers
 pub mod FitLines
 pub mod Fits
 pub mod Sound
+pub mod Forms

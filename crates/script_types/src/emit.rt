@@ -2,7 +2,9 @@ ghost use Rattle.std.specs.Prelude.{◌≡◌, ◌+◌, ◌<◌, ◌≤◌, [], 
 ghost use Rattle.script_types.specs.Statements.{operations_of};
 ghost use Rattle.script_types.specs.inside.Answers.{IsOperationOn, ListsTree};
 ghost use Rattle.script_types.specs.inside.Fits.{Ground, NamesHeld, fits, held_by};
+ghost use Rattle.script_types.specs.inside.Forms.{AreGrids, Forms};
 ghost use Rattle.script_types.specs.inside.Look.{look};
+ghost use Rattle.script_types.specs.inside.Sound.{is_sound};
 ghost use Rattle.script_types.specs.inside.Values.{Computes, HasOperands};
 
 use crate::names::Names;
@@ -76,6 +78,8 @@ pub fn emit(
     ensures listed { OnOk result (ListsTree ops.old ops.new at.statement at.first tree.now) }
     ensures value { IfOk result (λ operand. (g : Ground) → NamesHeld g (look holders.now.values) ops.old → fits g tree.now ≡ true →
         Computes g.inputs (look holders.now.values) ops.old ops.new at.statement at.first tree.now operand) }
+    ensures formed { IfOk result (λ operand. (g : Ground) → NamesHeld g (look holders.now.values) ops.old → fits g tree.now ≡ true → AreGrids g.inputs → is_sound tree.now ≡ true →
+        Forms g.inputs ops.old ops.new at.kept tree.now operand) }
 {
     match tree {
         Tree::Number { kind, cell } => Ok(Operand::Literal(*kind, *cell)),

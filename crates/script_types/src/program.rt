@@ -3,6 +3,7 @@ ghost use Rattle.script_types.specs.Lowered.{input_of, inputs_of, output_of, tot
 ghost use Rattle.script_types.specs.Reports.{file_written};
 ghost use Rattle.script_types.specs.Statements.{operations_of};
 ghost use Rattle.script_types.specs.inside.Answers.{StandsBelow, IsLineWritten, WritesLine, is_input_in};
+ghost use Rattle.script_types.specs.inside.Forms.{AddsForms, AreFormed};
 ghost use Rattle.script_types.specs.inside.LineValues.{AddsValues, AreOfLines};
 ghost use Rattle.script_types.specs.inside.Look.{look};
 ghost use Rattle.script_types.specs.inside.Scopes.{binding_in};
@@ -76,6 +77,7 @@ fn write_line(
     requires { length written.old.ops + operations_of line.now.statement.value ≤ 8192 }
     ensures written { OnOk result (WritesLine written.old.ops written.old.outputs written.new.ops written.new.outputs (binding_in scope.now) statement line.now) }
     ensures values { OnOk result (AddsValues (look holders.old.values) (look holders.new.values) written.old.ops written.new.ops statement line.now) }
+    ensures formed { OnOk result (AddsForms (look holders.old.values) written.old.ops written.new.ops statement line.now) }
 {
     let at = At {
         statement,
@@ -95,6 +97,7 @@ pub fn write_lines(alloc: Global, scope: &Scope<'_>, lines: &[Line]) -> Result<W
     requires room { total_operations lines.now ≤ 8192 }
     ensures written { IfOk result (λ written. IsLineWritten written (binding_in scope.now) lines.now) }
     ensures values { IfOk result (λ written. AreOfLines written.ops lines.now) }
+    ensures formed { IfOk result (λ written. AreFormed written.ops lines.now) }
 {
     let mut written = Written {
         ops: Items::new(alloc),

@@ -4,6 +4,11 @@ use Rattle.std.proofs.lemmas.List.{drop_more, drop_all, take_more, take_all}
 use Rattle.map_meaning.specs.declared.program.Operand.TheVariants.{Literal, Input, Initial}
 use Rattle.map_meaning.specs.declared.tree.Tree.TheVariants as tree
 use Rattle.script_types.specs.inside.Fits.{fits, held_by}
+use Rattle.script_types.specs.inside.Forms.{Forms, FormsAll}
+use Rattle.script_types.specs.inside.Sound.{has_kinds, is_sound}
+use Rattle.script_types.proofs.FormLemmas.{forms-call, forms-leaf, forms-none, forms-push, given-input, given-number}
+use Rattle.script_types.proofs.SoundLemmas.{kind-of, sound-call, sound-number}
+use Rattle.map_meaning.specs.Table.{row_of}
 use Rattle.script_types.specs.inside.Look.{look}
 use Rattle.script_types.specs.inside.Values.{Computes, ComputesAll, HasOperands}
 use Rattle.script_types.proofs.EmitValues.{computes-call, computes-input, computes-name, computes-none, computes-number, computes-push, names-held-more}
@@ -49,6 +54,7 @@ loop-operand-init t c = record {
   room = refl;
   listed = refl;
   values = λ g held f. (subst (λ xs. ComputesAll g.inputs (look c.args.holders.now.values) c.args.ops.now c.args.ops.now c.args.at.statement c.args.at.first [] xs) (sym c.new-found.ensures.items) (computes-none g.inputs (look c.args.holders.now.values) c.args.ops.now c.args.at.statement c.args.at.first), f);
+  formed = λ g held f grids hs. (subst (λ xs. FormsAll g.inputs c.args.ops.now c.args.ops.now xs) (sym c.new-found.ensures.items) (forms-none g.inputs c.args.ops.now), hs);
 }
 
 pub loop-operand-preserved : goal.loop-operand-preserved
@@ -80,18 +86,29 @@ loop-operand-preserved t c =
             subst (λ ts. ComputesAll g.inputs holder begun c.emit.new.ops st fi ts c.push.new.self.items) (sym front) (subst (λ xs. ComputesAll g.inputs holder begun c.emit.new.ops st fi (take at items ++ x ∷ []) xs) (sym c.in_ok-push-in-Call.ensures.items) (computes-push g.inputs holder begun old c.emit.new.ops st fi (take at items) c.loop-operand.found.items x c.in_ok-lowered-in-Call.lowered c.requires.first iv.0 one)),
             both-right (fits g x) (list_all (fits g) rest) here,
           );
+      formed = λ g held fit grids hs.
+          let iv = inv.values g held fit in
+          let jv = inv.formed g held fit grids hs in
+          let here = sym (ap (list_all (fits g)) left) ∙ iv.1 in
+          let sound = sym (ap (list_all is_sound) left) ∙ jv.1 in
+          let one = c.in_ok-lowered-in-Call.ensures.formed g (names-held-more g holder begun old iv.0.added iv.0.appended held) (both-left (fits g x) (list_all (fits g) rest) here) grids (both-left (is_sound x) (list_all is_sound rest) sound) in (
+            subst (λ xs. FormsAll g.inputs begun c.emit.new.ops xs) (sym c.in_ok-push-in-Call.ensures.items) (forms-push g.inputs begun old c.emit.new.ops c.loop-operand.found.items x c.in_ok-lowered-in-Call.lowered jv.0 one),
+            both-right (is_sound x) (list_all is_sound rest) sound,
+          );
     }
 
 pub returns-in-Number : goal.returns-in-Number
 returns-in-Number t c = record {
   listed = subst (λ x. ListsTree c.args.ops.now c.args.ops.now c.args.at.statement c.args.at.first x) (sym c.in-Number.is) (lists-leaf c.args.ops.now c.args.at.statement c.args.at.first _ (count-number c.in-Number.kind c.in-Number.cell) (post-number c.in-Number.kind c.in-Number.cell));
   value = λ g held f. subst (λ x. Computes g.inputs (look c.args.holders.now.values) c.args.ops.now c.args.ops.now c.args.at.statement c.args.at.first x (Literal c.in-Number.kind c.in-Number.cell)) (sym c.in-Number.is) (computes-number g.inputs (look c.args.holders.now.values) c.args.ops.now c.args.at.statement c.args.at.first c.in-Number.kind c.in-Number.cell);
+  formed = λ g held f grids hs. forms-leaf g.inputs c.args.ops.now c.args.at.kept c.args.tree.now (Literal c.in-Number.kind c.in-Number.cell) (λ program e. given-number program (length c.args.ops.now) c.in-Number.kind c.in-Number.cell (sym (ap is_sound c.in-Number.is ∙ sound-number c.in-Number.kind c.in-Number.cell) ∙ hs));
 }
 
 pub returns-in-Input : goal.returns-in-Input
 returns-in-Input t c = record {
   listed = subst (λ x. ListsTree c.args.ops.now c.args.ops.now c.args.at.statement c.args.at.first x) (sym c.in-Input.is) (lists-leaf c.args.ops.now c.args.at.statement c.args.at.first _ (count-input _ _) (post-input _ _));
   value = λ g held f. subst (λ x. Computes g.inputs (look c.args.holders.now.values) c.args.ops.now c.args.ops.now c.args.at.statement c.args.at.first x (Input c.in-Input.input)) (sym c.in-Input.is) (computes-input g.inputs (look c.args.holders.now.values) c.args.ops.now c.args.at.statement c.args.at.first _ c.in-Input.input (fits-input g c.args.tree.now _ c.in-Input.input c.in-Input.is f));
+  formed = λ g held f grids hs. forms-leaf g.inputs c.args.ops.now c.args.at.kept c.args.tree.now (Input c.in-Input.input) (λ program e. given-input program g.inputs c.args.ops.now c.in-Input.input (length c.args.ops.now) _ e grids (fits-input g c.args.tree.now _ c.in-Input.input c.in-Input.is f));
 }
 
 pub returns-in-Name : goal.returns-in-Name
@@ -102,6 +119,11 @@ returns-in-Name t c = record {
       let n = held c.in-Name.name _ (fits-name g c.args.tree.now _ c.in-Name.name c.in-Name.is f) in
       let r = c.holder.ensures ∙ ap (λ w. held_by (holder w)) c.bytes.ensures ∙ ap held_by n.1.0 in
       subst (λ y. Computes g.inputs holder c.args.ops.now c.args.ops.now c.args.at.statement c.args.at.first c.args.tree.now y) (sym r) (subst (λ x. Computes g.inputs holder c.args.ops.now c.args.ops.now c.args.at.statement c.args.at.first x (Initial n.0)) (sym c.in-Name.is) (computes-name g.inputs holder c.args.ops.now c.args.at.statement c.args.at.first _ c.in-Name.name n.0 n.1.0 n.1.1 n.1.2));
+  formed = λ g held f grids hs.
+      let holder = look c.args.holders.now.values in
+      let n = held c.in-Name.name _ (fits-name g c.args.tree.now _ c.in-Name.name c.in-Name.is f) in
+      let r = c.holder.ensures ∙ ap (λ w. held_by (holder w)) c.bytes.ensures ∙ ap held_by n.1.0 in
+      subst (λ y. Forms g.inputs c.args.ops.now c.args.ops.now c.args.at.kept c.args.tree.now y) (sym r) (forms-leaf g.inputs c.args.ops.now c.args.at.kept c.args.tree.now (Initial n.0) (λ program e. record { below = n.1.1; used = refl }));
 }
 
 pub returns-in_ok-push-in-Call-2 : goal.returns-in_ok-push-in-Call-2
@@ -128,4 +150,15 @@ returns-in_ok-push-in-Call-2 t c =
           let named = subst (λ x. Computes g.inputs holder begun (now ++ o ∷ []) c.args.at.statement c.args.at.first x (Initial (length now))) (sym c.in-Call.is) there in
           let pushed = subst (λ ops. Computes g.inputs holder begun ops c.args.at.statement c.args.at.first c.args.tree.now (Initial (length now))) (sym c.in_ok-push-in-Call-2.ensures.ok) named in
           subst (λ n. Computes g.inputs holder begun c.push-in-Call.new.self c.args.at.statement c.args.at.first c.args.tree.now (Initial n)) (sym c.len-number.ensures) pushed;
+      formed = λ g held f grids hs.
+          let fit = ap (list_all (fits g)) c.as_slice-operand-items.ensures ∙ fits-operands g c.args.tree.now c.in-Call.kind c.in-Call.op c.in-Call.operands c.in-Call.is f in
+          let called = sym (ap is_sound c.in-Call.is ∙ sound-call c.in-Call.kind c.in-Call.op c.in-Call.operands) ∙ hs in
+          let rows = has_kinds (row_of c.in-Call.op) (map kind-of c.in-Call.operands) c.in-Call.kind in
+          let iv = inv.values g held fit in
+          let jv = inv.formed g held fit grids (ap (list_all is_sound) c.as_slice-operand-items.ensures ∙ both-left (list_all is_sound c.in-Call.operands) rows called) in
+          let all = subst (λ ts. ComputesAll g.inputs holder begun now c.args.at.statement c.args.at.first ts c.loop-operand.found.items) (whole ∙ c.as_slice-operand-items.ensures) iv.0 in
+          let done = forms-call g.inputs begun now c.args.at.kept c.in-Call.kind c.in-Call.op c.in-Call.operands c.loop-operand.found.items o (fits-few g c.args.tree.now c.in-Call.kind c.in-Call.op c.in-Call.operands c.in-Call.is f) p.op_is p.kind_is p.kept has all.as_many jv.0 all.kinds (both-right (list_all is_sound c.in-Call.operands) rows called) in
+          let named = subst (λ x. Forms g.inputs begun (now ++ o ∷ []) c.args.at.kept x (Initial (length now))) (sym c.in-Call.is) done in
+          let pushed = subst (λ ops. Forms g.inputs begun ops c.args.at.kept c.args.tree.now (Initial (length now))) (sym c.in_ok-push-in-Call-2.ensures.ok) named in
+          subst (λ n. Forms g.inputs begun c.push-in-Call.new.self c.args.at.kept c.args.tree.now (Initial n)) (sym c.len-number.ensures) pushed;
     }

@@ -3,6 +3,10 @@ use Rattle.std.proofs.lemmas.List.{drop_more, length-take-le, take_all, take_mor
 use Rattle.script_types.specs.Lowered.{as_listed, numbered_operations, operations_from, output_of, outputs_from, post_order, total_operations}
 use Rattle.script_types.specs.Statements.{operations_of}
 use Rattle.script_types.specs.inside.FitLines.{LinesFit}
+use Rattle.script_types.specs.inside.Forms.{HaveForms}
+use Rattle.script_types.specs.inside.Sound.{are_sound, is_sound}
+use Rattle.script_types.proofs.FitLemmas.{both-left, both-right}
+use Rattle.script_types.proofs.FormLemmas.{have-no-forms}
 use Rattle.script_types.specs.inside.LineValues.{HaveValues}
 use Rattle.script_types.specs.inside.Look.{look}
 use Rattle.script_types.specs.inside.Scopes.{binding_in}
@@ -15,6 +19,7 @@ loop-at-init c = record {
   listed_in = search rules;
   outputs_in = search rules;
   values = λ inputs fit. let holder = look c.new-holders.result.values in (subst (λ ops. HaveValues inputs holder ops []) (sym c.new.ensures) (have-none inputs holder c.new-holders.ensures), fit);
+  formed = λ inputs fit sound grids. (subst (λ ops. HaveForms inputs ops []) (sym c.new.ensures) (have-no-forms inputs), sound);
 }
 
 pub loop-at-preserved : goal.loop-at-preserved
@@ -55,9 +60,22 @@ loop-at-preserved c =
             subst (HaveValues inputs (look c.write_line.new.holders.values) c.write_line.new.written.ops) (sym front) (c.in_ok-write_line.ensures.values inputs (take at lines) number here.0 v.0),
             subst (λ xs. LinesFit inputs xs rest) (sym front) here.1,
           );
+      formed = λ inputs fit sound grids.
+          let v = inv.values inputs fit in
+          let f = inv.formed inputs fit sound grids in
+          let here = subst (LinesFit inputs (take at lines)) left v.1 in
+          let left-sound = sym (ap are_sound left) ∙ f.1 in
+          let number = ap (λ n. n + 1) (sym (length-take-le at lines (omega (arith, below)))) in
+          (
+            subst (HaveForms inputs c.write_line.new.written.ops) (sym front) (c.in_ok-write_line.ensures.formed inputs (take at lines) number here.0 (both-left (is_sound l.statement.value) (are_sound rest) left-sound) grids v.0 f.0),
+            both-right (is_sound l.statement.value) (are_sound rest) left-sound,
+          );
     }
 
 pub returns-clause-values : goal.returns-clause-values
 returns-clause-values c = λ inputs fit.
     let holder = look c.loop-at.holders.values in
     (holder, subst (HaveValues inputs holder c.loop-at.written.ops) (take_all c.loop-at.at c.args.lines.now (omega arith)) (c.loop-at.invariant.values inputs fit).0)
+
+pub returns-clause-formed : goal.returns-clause-formed
+returns-clause-formed c = λ inputs fit sound grids. subst (HaveForms inputs c.loop-at.written.ops) (take_all c.loop-at.at c.args.lines.now (omega arith)) (c.loop-at.invariant.formed inputs fit sound grids).0
