@@ -33,7 +33,7 @@ bound-step true b bs place rest h = refl
 bound-step false b bs place rest h = h
 
 -- the binding of a name is the first that has it
-bound-first : (bs : List Binding) (name : List ℕ) → binding_at bs (place_from 0 bs name) ≡ find (λ b. bytes_eq name b.name) bs
+pub bound-first : (bs : List Binding) (name : List ℕ) → binding_at bs (place_from 0 bs name) ≡ find (λ b. bytes_eq name b.name) bs
 bound-first [] name = refl
 bound-first (b ∷ bs) name = bound-step (bytes_eq name b.name) b bs (place_from (0 + 1) bs name) (find (λ c. bytes_eq name c.name) bs) (ap (binding_at (b ∷ bs)) (place-shift 0 bs name) ∙ at-more b bs (place_from 0 bs name) ∙ bound-first bs name)
 

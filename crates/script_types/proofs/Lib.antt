@@ -8,6 +8,7 @@ mod FoundRows
 mod FitLemmas
 mod FitNodes
 mod FormLemmas
+mod FormedPrograms
 mod Fronts
 mod GivesLaws
 mod LawLemmas
@@ -15,6 +16,9 @@ mod LineLemmas
 mod LowerLemmas
 mod NamesLemmas
 mod NumberLemmas
+mod Orders
+mod Outputs
+mod Pairwise
 mod PostOrder
 mod ReportLemmas
 mod RowKinds

@@ -1,7 +1,8 @@
 -- That the right side of each settled statement fits where it stands, where nothing is unbuilt.
-use Rattle.std.proofs.Common.{◌≡◌, ◌<◌, ℕ, ◌+◌, Bool, true, false, not, ◌&&◌, ◌||◌, List, [], ◌∷◌, ◌++◌, map, length, refl, sym, ap, subst, ◌∙◌, Result, Ok, Err, append_assoc, append-nil, if◌then◌else◌, arith}
-use Rattle.std.specs.Prelude.{Option, None, Some, nat_lt}
+use Rattle.std.proofs.Common.{◌≡◌, ◌<◌, ℕ, ◌+◌, Bool, true, false, not, ◌&&◌, ◌||◌, List, [], ◌∷◌, ◌++◌, map, length, refl, sym, ap, suc, subst, length-append, ◌∙◌, Result, Ok, Err, append_assoc, append-nil, if◌then◌else◌, arith}
+use Rattle.std.specs.Prelude.{Option, None, Some, nat_le, nat_lt}
 use Rattle.std.specs.List.{list_all, list_any}
+use Rattle.std.specs.Option.{is_some}
 use Rattle.std.specs.Str.{bytes_eq}
 use Rattle.std.proofs.lemmas.List.Folds.{list_all-append}
 use Rattle.text_base.specs.Results.{◌>>=◌}
@@ -20,8 +21,9 @@ use Rattle.map_meaning.specs.declared.tree.Tree.TheVariants as tree
 use Rattle.map_meaning.specs.declared.tree.Tree.TheFolds.{ind-Tree}
 use Rattle.map_meaning.specs.declared.tree.Tree.TheOpen.{Tree-F}
 use Rattle.map_meaning.specs.Table.{is_kind, row_of}
+use Rattle.script_types.specs.declared.fault.MeaningFault.{MeaningFault}
 use Rattle.script_types.specs.declared.fault.MeaningKind.{MeaningKind}
-use Rattle.script_types.specs.declared.fault.MeaningKind.TheVariants.{DrainPlace}
+use Rattle.script_types.specs.declared.fault.MeaningKind.TheVariants.{DrainPlace, KindMismatch, NameClash}
 use Rattle.script_types.specs.declared.fault.Place.{Place}
 use Rattle.script_types.specs.declared.fault.Place.TheVariants as place
 use Rattle.script_types.specs.declared.typed.Line.{Line}
@@ -35,7 +37,7 @@ use Rattle.script_types.specs.declared.typed.Value.{Value}
 use Rattle.script_types.specs.Checks.{all_of, passed}
 use Rattle.script_types.specs.Lowered.{inputs_of}
 use Rattle.script_types.specs.Meaning.{area_checks, binding_checks, meaning}
-use Rattle.script_types.specs.Names.{binding_of, first_role, in_roles, is_assigned}
+use Rattle.script_types.specs.Names.{binding_of, first_role, in_roles, is_assigned, is_bound_to_number}
 use Rattle.script_types.specs.Reports.{files_read, report_checks}
 use Rattle.script_types.specs.Statements.{all_lines, asked_kind, bound_kind, counts, free_side, is_call, kind_above, line_of_value, line_read, line_with, lines_below, next_line, operations_of, right_side, scope_at, side_checks, target_checks, told_at, with_operation}
 use Rattle.script_types.specs.Typing.{Scope, call_read, number_as, or_kind, typed_as}
@@ -44,6 +46,10 @@ use Rattle.script_types.specs.inside.Fits.{Ground, fits}
 use Rattle.script_types.specs.inside.FitLines.{LineFits, LinesFit}
 use Rattle.script_types.specs.inside.Sound.{are_sound, has_kinds, is_sound}
 use Rattle.script_types.proofs.RowKinds.{both-are}
+use Rattle.script_syntax.specs.Listed.{most_counted}
+use Rattle.script_syntax.specs.WellMade.{IsWellMade, calls_in, has_words, is_name, is_well_made_statement}
+use Rattle.script_types.proofs.BindingLemmas.{passed-over}
+use Rattle.script_types.proofs.Pairwise.{Each, each-append}
 use Rattle.script_types.proofs.CountLemmas.{count-call}
 use Rattle.script_types.proofs.FitLemmas.{both-left, both-right}
 use Rattle.script_types.proofs.FitNodes.{AllGood, IsGood, IsGoodScope, IsGoodTyped, call-fits, call-good, ground-of, name-good, number-good, ok-one, passed-is, passed-test, value-before}
@@ -229,24 +235,82 @@ all-fit script lines hu h =
     let j = follow-on script Dynamic b.0 lines script.dynamic hb (neither-right (nat_lt 0 script.steps || bindings || has_unbuilt_call script.initial) (has_unbuilt_call script.dynamic) hu) i.plain b.2 in
     record { sound = sound-of lines j.plain; fit = subst (LinesFit (inputs_of script) []) (ap (λ x. x ++ j.rest) (sym i.split) ∙ sym j.split) (fit-append (inputs_of script) [] i.rest j.rest i.fit (subst (λ a. LinesFit (inputs_of script) a j.rest) i.split j.fit)) }
 
-lines-from : (script s t : Script) (lines ls : List Line) → is_unbuilt script ≡ false → script ≡ s → s ≡ t → all_lines t ≡ Ok ls → ls ≡ lines → AreGood script lines
-lines-from script s t lines ls hu hs ht h he = all-fit script lines hu (ap all_lines (hs ∙ ht) ∙ h ∙ ap (λ x. Ok x) he)
+-- what a script without a fault has: its statements, and an area map that is no number and no binding that is assigned
+pub record HasLines (script : Script) (lines : List Line) : Type 0 where
+  pub all : all_lines script ≡ Ok lines
+  pub number : is_bound_to_number (binding_of script script.area) ≡ false
+  pub assigned : (is_some (binding_of script script.area) && is_assigned script script.area) ≡ false
 
-lines-good : (script : Script) (lines : List Line) → is_unbuilt script ≡ false → meaning script ≡ Ok lines → AreGood script lines
+parts-of : (script s t : Script) (lines ls : List Line) → script ≡ s → passed (area_checks (binding_of s s.area) (is_assigned s s.area)) s ≡ Ok t → all_lines t ≡ Ok ls → ls ≡ lines → HasLines script lines
+parts-of script s t lines ls hs ht h he =
+    let bound = is_bound_to_number (binding_of s s.area) in
+    let clash = is_some (binding_of s s.area) && is_assigned s s.area in
+    let mismatch-fault : MeaningFault = record { at = place.Area; kind = KindMismatch } in
+    let clash-fault : MeaningFault = record { at = place.Area; kind = NameClash } in
+    let first = passed-test (mismatch-fault, bound) ((clash-fault, clash) ∷ []) s t ht in
+    let second = passed-test (clash-fault, clash) [] s t (sym (passed-over mismatch-fault bound ((clash-fault, clash) ∷ []) s first) ∙ ht) in
+    record {
+      all = ap all_lines (hs ∙ passed-is (area_checks (binding_of s s.area) (is_assigned s s.area)) s t ht) ∙ h ∙ ap (λ x. Ok x) he;
+      number = subst (λ z. is_bound_to_number (binding_of z z.area) ≡ false) (sym hs) first;
+      assigned = subst (λ z. (is_some (binding_of z z.area) && is_assigned z z.area) ≡ false) (sym hs) second;
+    }
+
+pub has-lines : (script : Script) (lines : List Line) → meaning script ≡ Ok lines → HasLines script lines
 unfolding meaning
-lines-good script lines hu h =
+has-lines script lines h =
     let after = λ (s : Script). passed (area_checks (binding_of s s.area) (is_assigned s s.area)) s >>= λ t. all_lines t >>= λ ls. passed (report_checks (binding_of t) (files_read t) 0 ls) ls in
     let b = value-before (passed (binding_checks [] script.bindings) script) after lines h in
     let c = value-before (passed (area_checks (binding_of b.0 b.0.area) (is_assigned b.0 b.0.area)) b.0) (λ t. all_lines t >>= λ ls. passed (report_checks (binding_of t) (files_read t) 0 ls) ls) lines b.2 in
     let d = value-before (all_lines c.0) (λ ls. passed (report_checks (binding_of c.0) (files_read c.0) 0 ls) ls) lines c.2 in
-    lines-from script b.0 c.0 lines d.0 hu (passed-is (binding_checks [] script.bindings) script b.0 b.1)
-    (passed-is (area_checks (binding_of b.0 b.0.area) (is_assigned b.0 b.0.area)) b.0 c.0 c.1) d.1
+    parts-of script b.0 c.0 lines d.0 (passed-is (binding_checks [] script.bindings) script b.0 b.1) c.1 d.1
     (passed-is (report_checks (binding_of c.0) (files_read c.0) 0 d.0) d.0 lines d.2)
 
 -- the settled statements of a script that is built fit where they stand
 pub lines-fit : (script : Script) (lines : List Line) → is_unbuilt script ≡ false → meaning script ≡ Ok lines → LinesFit (inputs_of script) [] lines
-lines-fit script lines hu h = (lines-good script lines hu h).fit
+lines-fit script lines hu h = (all-fit script lines hu (has-lines script lines h).all).fit
 
 -- and keep to the table
 pub lines-sound : (script : Script) (lines : List Line) → is_unbuilt script ≡ false → meaning script ≡ Ok lines → are_sound lines ≡ true
-lines-sound script lines hu h = (lines-good script lines hu h).sound
+lines-sound script lines hu h = (all-fit script lines hu (has-lines script lines h).all).sound
+
+-- ---- the names that are assigned
+
+value-name : (s : Scope) (before : ℕ) (st : Statement) (v : Value) (l : Line) → line_of_value s before st v ≡ Ok l → l.statement.target ≡ st.name
+value-name s before st v l h =
+    let b = value-before (passed (side_checks s.section v.kind) (with_operation v.kind v.tree)) (λ t. passed (target_checks s before st v.kind t) (line_with s.section st v.kind t)) l h in
+    let e = passed-is (target_checks s before st v.kind b.0) (line_with s.section st v.kind b.0) l b.2 in
+    subst (λ (x : Line). x.statement.target ≡ st.name) e refl
+
+-- the line assigns the statement's name
+line-name : (s : Scope) (before : ℕ) (st : Statement) (l : Line) → line_read s before st ≡ Ok l → l.statement.target ≡ st.name
+unfolding line_read
+line-name s before st l h =
+    let asked = asked_kind (s.above st.name) (bound_kind (s.binding st.name)) in
+    let b = value-before (typed_as s st.expr true used.Grid) (λ t. right_side asked t >>= λ v. line_of_value s before st v) l h in
+    let c = value-before (right_side asked b.0) (λ v. line_of_value s before st v) l b.2 in
+    value-name s before st c.0 l c.2
+
+-- each line assigns a name, and there are as many as statements
+pub record AreNamed (count : ℕ) (lines : List Line) : Type 0 where
+  pub names : Each (λ l. is_name l.statement.target ≡ true) lines
+  pub many : length lines ≡ count
+
+named-on : (script : Script) (section : Section) (count : ℕ) (above lines : List Line) (ss : List Statement) → AreNamed count above → list_all is_well_made_statement ss ≡ true → lines_below script section above ss ≡ Ok lines → AreNamed (count + length ss) lines
+named-on script section count above lines [] ha hs h = let z : above ≡ lines = cc in let e : count ≡ count + 0 = omega arith in subst (λ n. AreNamed n lines) e (subst (AreNamed count) z ha)
+named-on script section count above lines (s ∷ ss) ha hs h =
+    let b = value-before (next_line script section above s) (λ l. lines_below script section (above ++ l ∷ []) ss) lines h in
+    let read = told-ok (place.Statement (length above + 1)) (line_read (scope_at script section above) (counts section above) s) b.0 b.1 in
+    let name = ap is_name (line-name (scope_at script section above) (counts section above) s b.0 read) ∙ both-left (is_name s.name) (has_words s.expr) (both-left (is_name s.name && has_words s.expr) (nat_le (calls_in s.expr) most_counted) (both-left (is_well_made_statement s) (list_all is_well_made_statement ss) hs)) in
+    let n = ha.many in
+    let m = length-append above (b.0 ∷ []) in
+    let e : count + 1 + length ss ≡ count + suc (length ss) = omega arith in
+    subst (λ k. AreNamed k lines) e (named-on script section (count + 1) (above ++ b.0 ∷ []) lines ss
+    (record { names = each-append (λ (l : Line). is_name l.statement.target ≡ true) above (b.0 ∷ []) ha.names (name, tt); many = m ∙ ap (λ k. k + 1) n })
+    (both-right (is_well_made_statement s) (list_all is_well_made_statement ss) hs) b.2)
+
+-- the lines of a script that a text gives
+pub lines-named : (script : Script) (lines : List Line) → IsWellMade script → all_lines script ≡ Ok lines → AreNamed (length script.initial + length script.dynamic) lines
+lines-named script lines hm h =
+    let b = value-before (lines_below script Initial [] script.initial) (λ ls. lines_below script Dynamic ls script.dynamic) lines h in
+    let z : 0 + length script.initial ≡ length script.initial = omega arith in
+    named-on script Dynamic (length script.initial) b.0 lines script.dynamic (subst (λ n. AreNamed n b.0) z (named-on script Initial 0 [] b.0 script.initial (record { names = tt; many = refl }) hm.initial b.1)) hm.dynamic b.2

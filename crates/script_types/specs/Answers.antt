@@ -2,6 +2,7 @@
 use Rattle.std.specs.Prelude.{◌≡◌, true, false, List, map, Result, Ok, Err, ⊤}
 use Rattle.script_syntax.specs.declared.tree.Script.{Script}
 use Rattle.map_meaning.specs.declared.program.Program.{Program}
+use Rattle.map_meaning.specs.Programs.{IsWellFormed}
 use Rattle.script_types.specs.declared.end.LowerEnd.{LowerEnd}
 use Rattle.script_types.specs.declared.end.LowerEnd.TheVariants.{Meaning, Unbuilt, Memory}
 use Rattle.script_types.specs.declared.typed.Line.{Line}
@@ -20,13 +21,15 @@ pub record IsProgramOf (script : Script) (lines : List Line) (program : Program)
   pub outputs : program.outputs ≡ outputs_from (binding_of script) 1 0 lines
   pub steps : program.steps ≡ script.steps
 
--- the program of a script that is built and has no fault: it is that of its settled statements, and has their values
+-- The program of a script that is built and has no fault: it is that of its settled statements, has their values, and is
+-- well formed.
 pub record IsLowered (script : Script) (program : Program) : Type 0 where
   pub built : is_unbuilt script ≡ false
   pub lines : List Line
   pub meant : meaning script ≡ Ok lines
   pub program_of : IsProgramOf script lines program
   pub values : HasValues script lines program
+  pub formed : IsWellFormed program
 
 -- An answer is `Unbuilt` exactly where the script has something that is not built; else the first fault of meaning where
 -- there is one; else the program of its statements; or there was no memory.

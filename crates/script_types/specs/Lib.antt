@@ -8,7 +8,6 @@ pub mod Meaning
 pub mod Lowered
 pub mod Values
 pub mod Unbuilt
-pub mod Made
 pub mod Answers
 pub mod Laws
 pub mod inside

@@ -1,10 +1,12 @@
-ghost use Rattle.std.specs.Prelude.{◌≡◌, [], IfOk};
+ghost use Rattle.std.specs.Prelude.{◌≡◌, true, [], IfOk};
+ghost use Rattle.script_syntax.specs.WellMade.{IsWellMade};
 ghost use Rattle.script_types.specs.Answers.{IsProgramOf, Lowers};
 ghost use Rattle.script_types.specs.Lowered.{inputs_of};
-ghost use Rattle.script_types.specs.Made.{IsMade};
 ghost use Rattle.script_types.specs.Values.{HasValues};
 ghost use Rattle.script_types.specs.inside.Answers.{IsSettled};
 ghost use Rattle.script_types.specs.inside.FitLines.{LinesFit};
+ghost use Rattle.script_types.specs.inside.Forms.{HaveForms};
+ghost use Rattle.script_types.specs.inside.Sound.{are_sound};
 
 use crate::end::LowerEnd;
 use crate::program::{inputs_of, write_lines};
@@ -16,10 +18,11 @@ use std::alloc::{AllocError, Global};
 
 // The program of settled statements.
 fn program_of(alloc: Global, script: &Script, settled: &Settled<'_>) -> Result<Program, AllocError>
-    requires made { IsMade script.now }
+    requires made { IsWellMade script.now }
     requires settled { IsSettled script.now settled.now }
     ensures program { IfOk result (λ program. IsProgramOf script.now settled.now.lines program) }
     ensures values { IfOk result (λ program. LinesFit (inputs_of script.now) [] settled.now.lines → HasValues script.now settled.now.lines program) }
+    ensures formed { IfOk result (λ program. LinesFit (inputs_of script.now) [] settled.now.lines → are_sound settled.now.lines ≡ true → HaveForms (inputs_of script.now) program.initial settled.now.lines) }
 {
     let inputs = inputs_of(alloc, script, settled)?;
     let written = write_lines(alloc, &settled.scope, settled.lines.as_slice())?;
@@ -37,7 +40,7 @@ fn program_of(alloc: Global, script: &Script, settled: &Settled<'_>) -> Result<P
 /// and before every fault; `Meaning` exactly where it has a fault, which is the first in the order of the language's rules.
 /// Takes time in proportion to the script, but for the search of names and of words in the table of operations.
 pub fn lower(alloc: Global, script: &Script) -> Result<Program, LowerEnd>
-    requires { IsMade script.now }
+    requires { IsWellMade script.now }
     ensures { Lowers result script.now }
 {
     if is_unbuilt(script) {

@@ -1,0 +1,92 @@
+-- The order of operations and outputs of settled statements.
+use Rattle.std.proofs.Common.{◌≡◌, ◌<◌, ◌≤◌, ◌⊎◌, inl, inr, ℕ, zero, suc, ◌+◌, ◌-◌, Bool, true, false, List, [], ◌∷◌, ◌++◌, map, length, refl, sym, ap, subst, ◌∙◌, if◌then◌else◌, arith}
+use Rattle.map_meaning.specs.declared.program.Operation.{Operation}
+use Rattle.map_meaning.specs.declared.program.OutputUse.{OutputUse}
+use Rattle.map_meaning.specs.Programs.{StandsBefore}
+use Rattle.script_types.specs.declared.typed.Line.{Line}
+use Rattle.script_types.specs.Lowered.{Listed, Unnumbered, as_listed, numbered_operations, operations_from, output_of, outputs_from, post_order}
+use Rattle.script_types.specs.Reports.{Bound}
+use Rattle.script_types.specs.Statements.{operations_of}
+use Rattle.script_types.proofs.Pairwise.{Each, Pairs, each-append, each-from_map, each-weaken, pairs-from_map}
+
+-- ---- operations
+
+-- the first stands in an earlier statement, or in the same one with a lower number
+ListedBefore : Listed → Listed → Type 0
+ListedBefore a b = (a.statement < b.statement) ⊎ ((a.statement ≡ b.statement) × (a.number < b.number))
+
+-- an operation of the statement stands before those that are numbered above it
+later-ones : (x : Listed) (statement n : ℕ) (us : List Unnumbered) → x.statement ≡ statement → x.number < n → Each (ListedBefore x) (numbered_operations statement n us)
+unfolding ListedBefore
+later-ones x statement n [] hs hn = tt
+later-ones x statement n (u ∷ us) hs hn = (inr (hs, hn), later-ones x statement (n + 1) us hs (omega (arith, hn)))
+
+numbered-order : (statement n : ℕ) (us : List Unnumbered) (rest : List Listed) → Each (λ p. statement < p.statement) rest → Pairs ListedBefore rest → Pairs ListedBefore (numbered_operations statement n us ++ rest)
+unfolding ListedBefore
+numbered-order statement n [] rest he hp = hp
+numbered-order statement n (u ∷ us) rest he hp =
+    let x : Listed = record { op = u.op; kind = u.kind; statement = statement; number = n } in
+    (each-append (ListedBefore x) (numbered_operations statement (n + 1) us) rest (later-ones x statement (n + 1) us refl (omega arith)) (each-weaken (λ (p : Listed). statement < p.statement) (ListedBefore x) rest (λ p h. inl h) he), numbered-order statement (n + 1) us rest he hp)
+
+-- the statements lie between the first and the last
+Within : ℕ → ℕ → Listed → Type 0
+Within low high p = (low ≤ p.statement) × (p.statement < high)
+
+numbered-within : (low high statement n : ℕ) (us : List Unnumbered) → low ≤ statement → statement < high → Each (Within low high) (numbered_operations statement n us)
+unfolding Within
+numbered-within low high statement n [] hl hh = tt
+numbered-within low high statement n (u ∷ us) hl hh = ((hl, hh), numbered-within low high statement (n + 1) us hl hh)
+
+from-within : (low high statement : ℕ) (lines : List Line) → low ≤ statement → statement + length lines ≤ high → Each (Within low high) (operations_from statement lines)
+from-within low high statement [] hl hh = tt
+from-within low high statement (l ∷ ls) hl hh =
+    let k : statement + suc (length ls) ≤ high = hh in
+    each-append (Within low high) (numbered_operations statement 1 (post_order l.statement.value)) (operations_from (statement + 1) ls)
+    (numbered-within low high statement 1 (post_order l.statement.value) hl (omega (arith, k))) (from-within low high (statement + 1) ls (omega (arith, hl)) (omega (arith, k)))
+
+from-order : (statement : ℕ) (lines : List Line) → Pairs ListedBefore (operations_from statement lines)
+unfolding Within
+from-order statement [] = tt
+from-order statement (l ∷ ls) = numbered-order statement 1 (post_order l.statement.value) (operations_from (statement + 1) ls)
+    (each-weaken (Within (statement + 1) (statement + 1 + length ls)) (λ (p : Listed). statement < p.statement) (operations_from (statement + 1) ls) (λ p h. (let k = h.0 in omega (arith, k))) (from-within (statement + 1) (statement + 1 + length ls) (statement + 1) ls (omega arith) (omega arith)))
+    (from-order (statement + 1) ls)
+
+-- operations of statements stand in their order
+pub operations-order : (ops : List Operation) (lines : List Line) → map as_listed ops ≡ operations_from 1 lines → Pairs StandsBefore ops
+unfolding ListedBefore
+operations-order ops lines h = pairs-from_map as_listed ListedBefore ops (subst (Pairs ListedBefore) (sym h) (from-order 1 lines))
+
+-- and their statements are numbered up to the last
+pub operations-below : (ops : List Operation) (lines : List Line) → map as_listed ops ≡ operations_from 1 lines → Each (λ o. o.statement ≤ length lines) ops
+unfolding Within
+operations-below ops lines h = each-weaken (λ o. Within 1 (1 + length lines) (as_listed o)) (λ o. o.statement ≤ length lines) ops (λ o w. (let k = w.1 in omega (arith, k))) (each-from_map as_listed (Within 1 (1 + length lines)) ops (subst (Each (Within 1 (1 + length lines))) (sym h) (from-within 1 (1 + length lines) 1 lines (omega arith) (omega arith))))
+
+-- ---- outputs
+
+one-output : (P : OutputUse → Type 0) (report : Bool) (u : OutputUse) (rest : List OutputUse) → P u → Each P rest → Each P ((if report then u ∷ [] else []) ++ rest)
+one-output P true u rest hu hr = (hu, hr)
+one-output P false u rest hu hr = hr
+
+outputs-from_on : (bound : Bound) (low statement below : ℕ) (lines : List Line) → low ≤ statement → Each (λ u. low ≤ u.statement) (outputs_from bound statement below lines)
+outputs-from_on bound low statement below [] h = tt
+outputs-from_on bound low statement below (l ∷ ls) h = one-output (λ u. low ≤ u.statement) l.report _ (outputs_from bound (statement + 1) (below + operations_of l.statement.value) ls) h (outputs-from_on bound low (statement + 1) (below + operations_of l.statement.value) ls (omega (arith, h)))
+
+one-before : (R : OutputUse → OutputUse → Type 0) (report : Bool) (u : OutputUse) (rest : List OutputUse) → Each (R u) rest → Pairs R rest → Pairs R ((if report then u ∷ [] else []) ++ rest)
+one-before R true u rest he hp = (he, hp)
+one-before R false u rest he hp = hp
+
+-- outputs stand in the order of their statements
+pub outputs-order : (bound : Bound) (statement below : ℕ) (lines : List Line) → Pairs (λ x y. x.statement < y.statement) (outputs_from bound statement below lines)
+outputs-order bound statement below [] = tt
+outputs-order bound statement below (l ∷ ls) =
+    let rest = outputs_from bound (statement + 1) (below + operations_of l.statement.value) ls in
+    one-before (λ x y. x.statement < y.statement) l.report _ rest (each-weaken (λ (u : OutputUse). statement + 1 ≤ u.statement) (λ u. statement < u.statement) rest (λ u k. (let m = k in omega (arith, m))) (outputs-from_on bound (statement + 1) (statement + 1) (below + operations_of l.statement.value) ls (omega arith))) (outputs-order bound (statement + 1) (below + operations_of l.statement.value) ls)
+
+-- there are no more than statements
+pub outputs-few : (bound : Bound) (statement below : ℕ) (lines : List Line) → length (outputs_from bound statement below lines) ≤ length lines
+outputs-few bound statement below [] = omega arith
+outputs-few bound statement below (l ∷ ls) = at-most l.report _ (outputs_from bound (statement + 1) (below + operations_of l.statement.value) ls) (length ls) (outputs-few bound (statement + 1) (below + operations_of l.statement.value) ls)
+  where
+    at-most : (report : Bool) (u : OutputUse) (rest : List OutputUse) (n : ℕ) → length rest ≤ n → length ((if report then u ∷ [] else []) ++ rest) ≤ suc n
+    at-most true u rest n h = omega (arith, h)
+    at-most false u rest n h = omega (arith, h)
