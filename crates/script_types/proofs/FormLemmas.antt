@@ -1,12 +1,11 @@
 -- That the operations which are written of an expression are well formed: leaf by leaf, operand by operand, call by call.
 use Rattle.std.proofs.Common.{◌≡◌, ℕ, zero, suc, ◌+◌, ◌<◌, ◌≤◌, Bool, true, false, ℤ, int_le, ◌≤ℤ◌, List, [], ◌∷◌, ◌++◌, length, map, refl, sym, ap, subst, ◌∙◌, arith, append_assoc, append-nil, length-append}
 use Rattle.std.specs.Prelude.{Option, None, Some, IfSome, option_map, slice_get, slice_index_or}
-use Rattle.std.specs.List.{list_all}
 use Rattle.std.proofs.lemmas.Int.{ints}
 use Rattle.cell_values.specs.declared.kind.Kind.{Kind}
 use Rattle.cell_values.specs.declared.cell.Cell.{Cell}
 use Rattle.cell_values.specs.declared.cell.Cell.TheVariants.{Mv, Val}
-use Rattle.cell_values.specs.Kinds.{IsCell, IsValue, greatest, is_value, least}
+use Rattle.cell_values.specs.Kinds.{IsValue, greatest, is_value, least}
 use Rattle.map_meaning.specs.declared.op.Op.{Op}
 use Rattle.map_meaning.specs.declared.program.InputUse.{InputUse}
 use Rattle.map_meaning.specs.declared.program.Operand.{Operand}
@@ -16,13 +15,13 @@ use Rattle.map_meaning.specs.declared.program.Program.{Program}
 use Rattle.map_meaning.specs.declared.program.Role.TheVariants.{Grid}
 use Rattle.map_meaning.specs.declared.tree.Tree.{Tree}
 use Rattle.map_meaning.specs.declared.tree.Tree.TheVariants as tree
-use Rattle.map_meaning.specs.Programs.{IsBelow, IsInput, are_used_first, is_unused, kinds_of, operand_kind, operands_of}
+use Rattle.map_meaning.specs.Programs.{IsBelow, are_used_first, is_unused, kinds_of, operand_kind, operands_of}
 use Rattle.map_meaning.specs.Table.{HasKinds, row_of}
 use Rattle.map_meaning.specs.Trees.{TreeMeaning, meaning_of}
 use Rattle.script_types.specs.declared.typed.Line.{Line}
 use Rattle.script_types.specs.Statements.{operations_of}
 use Rattle.script_types.specs.inside.Forms.{AreGiven, AreGrids, AreKept, Forms, FormsAll, HasForm, HaveForm, HaveForms, IsGiven, LastIs, NoneKept}
-use Rattle.script_types.specs.inside.Sound.{has_kinds, is_cell, is_sound}
+use Rattle.script_types.specs.inside.Sound.{has_kinds, is_cell}
 use Rattle.script_types.specs.inside.Values.{Extends, HasOperands}
 use Rattle.script_types.proofs.CountLemmas.{meaning-call}
 use Rattle.script_types.proofs.EmitValues.{extends-less, kinds-are}

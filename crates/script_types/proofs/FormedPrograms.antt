@@ -1,6 +1,6 @@
 -- That the program of a script is well formed.
 use Rattle.std.proofs.Common.{◌≡◌, ◌<◌, ◌≤◌, ℕ, zero, suc, ◌+◌, ◌==◌, Bool, true, false, not, ◌&&◌, ◌||◌, List, [], ◌∷◌, ◌++◌, map, filter, length, refl, sym, ap, subst, ◌∙◌, if◌then◌else◌, arith, append-nil, length-append}
-use Rattle.std.specs.Prelude.{⊤, Option, None, Some, IfSome, Ok, IsTrue, nat_le, nat_lt, option_map, slice_get}
+use Rattle.std.specs.Prelude.{Option, None, Some, IfSome, Ok, IsTrue, nat_le, nat_lt, slice_get}
 use Rattle.std.specs.Char.{is_ascii_digit}
 use Rattle.std.specs.Option.{is_some, unwrap_or}
 use Rattle.std.specs.List.{find, list_all}
@@ -27,15 +27,15 @@ use Rattle.script_types.specs.declared.typed.Line.{Line}
 use Rattle.script_types.specs.declared.typed.UsedAs.{UsedAs}
 use Rattle.script_types.specs.declared.typed.UsedAs.TheVariants as used
 use Rattle.script_types.specs.Answers.{IsProgramOf}
-use Rattle.script_types.specs.Lowered.{area_number, grid_input, input_of, inputs_of, outputs_from, total_operations}
+use Rattle.script_types.specs.Lowered.{area_number, grid_input, input_of, inputs_of, total_operations}
 use Rattle.script_types.specs.Meaning.{meaning}
-use Rattle.script_types.specs.Names.{binding_of, file_by, input_number, inputs_before, is_assigned, is_bound_to_number, is_input_by, is_number_target, is_used, place_from, role_of, script_uses, target_file, used_inputs}
+use Rattle.script_types.specs.Names.{binding_of, file_by, inputs_before, is_assigned, is_bound_to_number, is_input_by, is_number_target, is_used, place_from, target_file, used_inputs}
 use Rattle.script_types.specs.Reports.{area_files, file_written}
 use Rattle.script_types.specs.Unbuilt.{is_unbuilt}
 use Rattle.script_types.specs.inside.FitLines.{LinesFit}
 use Rattle.script_types.specs.inside.Forms.{AreGrids, HaveForms}
 use Rattle.script_types.proofs.FitLemmas.{both-left, both-right}
-use Rattle.script_types.proofs.FoundInputs.{bound-first, found-input, found-passes}
+use Rattle.script_types.proofs.FoundInputs.{bound-first, found-input}
 use Rattle.script_types.proofs.Orders.{operations-below, operations-order, outputs-few, outputs-order}
 use Rattle.script_types.proofs.Outputs.{AllHave, kept-count, operations-formed, outputs-formed}
 use Rattle.script_types.proofs.Pairwise.{Each, Pairs, all-each, all-pairs, each-append, each-map, each-weaken}

@@ -1,10 +1,10 @@
 -- The order of operations and outputs of settled statements.
-use Rattle.std.proofs.Common.{◌≡◌, ◌<◌, ◌≤◌, ◌⊎◌, inl, inr, ℕ, zero, suc, ◌+◌, ◌-◌, Bool, true, false, List, [], ◌∷◌, ◌++◌, map, length, refl, sym, ap, subst, ◌∙◌, if◌then◌else◌, arith}
+use Rattle.std.proofs.Common.{◌≡◌, ◌<◌, ◌≤◌, ◌⊎◌, inl, inr, ℕ, suc, ◌+◌, Bool, true, false, List, [], ◌∷◌, ◌++◌, map, length, refl, sym, subst, if◌then◌else◌, arith}
 use Rattle.map_meaning.specs.declared.program.Operation.{Operation}
 use Rattle.map_meaning.specs.declared.program.OutputUse.{OutputUse}
 use Rattle.map_meaning.specs.Programs.{StandsBefore}
 use Rattle.script_types.specs.declared.typed.Line.{Line}
-use Rattle.script_types.specs.Lowered.{Listed, Unnumbered, as_listed, numbered_operations, operations_from, output_of, outputs_from, post_order}
+use Rattle.script_types.specs.Lowered.{Listed, Unnumbered, as_listed, numbered_operations, operations_from, outputs_from, post_order}
 use Rattle.script_types.specs.Reports.{Bound}
 use Rattle.script_types.specs.Statements.{operations_of}
 use Rattle.script_types.proofs.Pairwise.{Each, Pairs, each-append, each-from_map, each-weaken, pairs-from_map}

@@ -1,11 +1,10 @@
 -- The outputs of settled statements: each writes the map of the last operation of its statement, which is handed out.
-use Rattle.std.proofs.Common.{◌≡◌, ◌<◌, ◌≤◌, ℕ, zero, suc, ◌+◌, ◌-◌, ◌==◌, Bool, true, false, ◌&&◌, ◌||◌, List, [], ◌∷◌, ◌++◌, length, refl, sym, ap, subst, ◌∙◌, if◌then◌else◌, arith, append_assoc, append-nil, length-append}
-use Rattle.std.specs.Prelude.{⊤, Some, IsTrue, option_map, slice_get}
+use Rattle.std.proofs.Common.{◌≡◌, ◌<◌, ◌≤◌, ℕ, zero, suc, ◌+◌, ◌-◌, ◌==◌, Bool, true, false, ◌&&◌, ◌||◌, List, [], ◌∷◌, ◌++◌, length, refl, sym, ap, subst, ◌∙◌, if◌then◌else◌, arith, append_assoc, length-append}
+use Rattle.std.specs.Prelude.{⊤, Some, option_map, slice_get}
 use Rattle.std.specs.List.{list_any}
 use Rattle.std.proofs.lemmas.List.Folds.{list_any-append}
 use Rattle.text_base.specs.Words.{is_file_word}
 use Rattle.cell_values.specs.declared.kind.Kind.{Kind}
-use Rattle.map_meaning.specs.declared.program.Operand.TheVariants.{Initial}
 use Rattle.map_meaning.specs.declared.program.Operation.{Operation}
 use Rattle.map_meaning.specs.declared.program.OutputUse.{OutputUse}
 use Rattle.map_meaning.specs.declared.program.Program.{Program}

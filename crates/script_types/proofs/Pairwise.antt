@@ -1,5 +1,5 @@
 -- Facts of each element and of each two elements of a list, by recursion.
-use Rattle.std.proofs.Common.{◌≡◌, List, [], ◌∷◌, ◌++◌, map, arith}
+use Rattle.std.proofs.Common.{List, [], ◌∷◌, ◌++◌, map, arith}
 use Rattle.std.specs.Prelude.{⊤, All, AllPairs}
 use Rattle.std.proofs.lemmas.List.Elements.{All-cons, All-nil}
 use Rattle.std.proofs.lemmas.List.Kept.{AllPairs-cons}
