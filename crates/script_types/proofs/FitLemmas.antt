@@ -28,6 +28,10 @@ pub both-right : (a b : Bool) → (a && b) ≡ true → b ≡ true
 both-right true b h = h
 both-right false b h = cc
 
+-- what passes of all passes of the first and of the others
+pub pass-next : {A : Type 0} (p : A → Bool) (all : List A) (x : A) (rest : List A) → all ≡ x ∷ rest → list_all p all ≡ true → (p x ≡ true) × (list_all p rest ≡ true)
+pass-next p all x rest e h = let k = sym (ap (list_all p) e) ∙ h in (both-left (p x) (list_all p rest) k, both-right (p x) (list_all p rest) k)
+
 -- whether a number, an input, a name or a call fits
 pub fits-number-is : (g : Ground) (k : Kind) (c : Cell) → fits g (tree.Number k c) ≡ true
 unfolding fits

@@ -1,6 +1,9 @@
 //! Scripts with their first fault of meaning, or how many operations their programs have. The answers were worked out from
 //! the rules of the language.
 
+ghost use Rattle.std.specs.Prelude.{IfOk};
+ghost use Rattle.script_syntax.specs.WellMade.{IsWellMade};
+
 use crate::texts::{program_of, script_of};
 use cell_values::Cell::Val;
 use cell_values::Kind;
@@ -186,16 +189,17 @@ static PAIRS: [(&str, Told); 7] = [
 ];
 
 // The script with these entries, this area map and these statements of `initial`.
-fn script(alloc: Global, entries: &str, area: &str, statements: &str) -> Result<Script, Fail> {
+fn script(alloc: Global, entries: &str, area: &str, statements: &str) -> Result<Script, Fail>
+    ensures { IfOk result IsWellMade }
+{
     let text = format!(in alloc; "binding {entries} areamap {area}; initial {statements}")?;
     script_of(alloc, &text)
 }
 
-// What a script of one section is told.
-fn answer(alloc: Global, script: &Script) -> Result<Told, AllocError> {
-    if script.bindings.len() > 1000 || script.initial.len() > 1000 || !script.dynamic.is_empty() {
-        return Err(AllocError);
-    }
+// What a script is told.
+fn answer(alloc: Global, script: &Script) -> Result<Told, AllocError>
+    requires { IsWellMade script.now }
+{
     match lower(alloc, script) {
         Ok(program) => Ok(Fine(program.initial.len())),
         Err(LowerEnd::Unbuilt) => Ok(Unbuilt),

@@ -1,5 +1,8 @@
 //! Scripts and programs of texts.
 
+ghost use Rattle.std.specs.Prelude.{IfOk};
+ghost use Rattle.script_syntax.specs.WellMade.{IsWellMade};
+
 use map_meaning::Program;
 use script_syntax::{Script, read_script};
 use script_types::lower;
@@ -7,7 +10,9 @@ use std::alloc::Global;
 use std::test::Fail;
 
 /// The script of a text.
-pub fn script_of(alloc: Global, text: &str) -> Result<Script, Fail> {
+pub fn script_of(alloc: Global, text: &str) -> Result<Script, Fail>
+    ensures { IfOk result IsWellMade }
+{
     if text.len() > 268_435_456 {
         return Err(Fail::from("too long"));
     }
@@ -17,11 +22,10 @@ pub fn script_of(alloc: Global, text: &str) -> Result<Script, Fail> {
     }
 }
 
-/// The program of a script of one section.
-pub fn program_of(alloc: Global, script: &Script) -> Result<Program, Fail> {
-    if script.bindings.len() > 1000 || script.initial.len() > 1000 || !script.dynamic.is_empty() {
-        return Err(Fail::from("too long"));
-    }
+/// The program of a script that a text gives.
+pub fn program_of(alloc: Global, script: &Script) -> Result<Program, Fail>
+    requires { IsWellMade script.now }
+{
     match lower(alloc, script) {
         Ok(program) => Ok(program),
         Err(_) => Err(Fail::from("no program")),

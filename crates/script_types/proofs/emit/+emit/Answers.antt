@@ -12,7 +12,7 @@ use Rattle.map_meaning.specs.Table.{row_of}
 use Rattle.script_types.specs.inside.Look.{look}
 use Rattle.script_types.specs.inside.Values.{Computes, ComputesAll, HasOperands}
 use Rattle.script_types.proofs.EmitValues.{computes-call, computes-input, computes-name, computes-none, computes-number, computes-push, names-held-more}
-use Rattle.script_types.proofs.FitLemmas.{both-left, both-right, fits-few, fits-input, fits-name, fits-operands}
+use Rattle.script_types.proofs.FitLemmas.{both-left, both-right, fits-few, fits-input, fits-name, fits-operands, pass-next}
 use Rattle.map_meaning.specs.Trees.{meaning_of, operations_in}
 use Rattle.script_types.specs.Lowered.{as_listed, numbered_operations, post_order}
 use Rattle.script_types.specs.Names.{joined_lists}
@@ -81,19 +81,19 @@ loop-operand-preserved t c =
       listed = list-next old c.emit.new.ops st fi x (joined_lists (map post_order rest)) f h ∙ ap (λ xs. map as_listed old ++ numbered_operations st (length old - fi + 1) (joined_lists (map post_order xs))) (sym left) ∙ inv.listed;
       values = λ g held fit.
           let iv = inv.values g held fit in
-          let here = sym (ap (list_all (fits g)) left) ∙ iv.1 in
-          let one = c.in_ok-lowered-in-Call.ensures.value g (names-held-more g holder begun old iv.0.added iv.0.appended held) (both-left (fits g x) (list_all (fits g) rest) here) in (
+          let here = pass-next (fits g) (drop at items) x rest left iv.1 in
+          let one = c.in_ok-lowered-in-Call.ensures.value g (names-held-more g holder begun old iv.0.added iv.0.appended held) here.0 in (
             subst (λ ts. ComputesAll g.inputs holder begun c.emit.new.ops st fi ts c.push.new.self.items) (sym front) (subst (λ xs. ComputesAll g.inputs holder begun c.emit.new.ops st fi (take at items ++ x ∷ []) xs) (sym c.in_ok-push-in-Call.ensures.items) (computes-push g.inputs holder begun old c.emit.new.ops st fi (take at items) c.loop-operand.found.items x c.in_ok-lowered-in-Call.lowered c.requires.first iv.0 one)),
-            both-right (fits g x) (list_all (fits g) rest) here,
+            here.1,
           );
       formed = λ g held fit grids hs.
           let iv = inv.values g held fit in
           let jv = inv.formed g held fit grids hs in
-          let here = sym (ap (list_all (fits g)) left) ∙ iv.1 in
-          let sound = sym (ap (list_all is_sound) left) ∙ jv.1 in
-          let one = c.in_ok-lowered-in-Call.ensures.formed g (names-held-more g holder begun old iv.0.added iv.0.appended held) (both-left (fits g x) (list_all (fits g) rest) here) grids (both-left (is_sound x) (list_all is_sound rest) sound) in (
+          let here = pass-next (fits g) (drop at items) x rest left iv.1 in
+          let sound = pass-next is_sound (drop at items) x rest left jv.1 in
+          let one = c.in_ok-lowered-in-Call.ensures.formed g (names-held-more g holder begun old iv.0.added iv.0.appended held) here.0 grids sound.0 in (
             subst (λ xs. FormsAll g.inputs begun c.emit.new.ops xs) (sym c.in_ok-push-in-Call.ensures.items) (forms-push g.inputs begun old c.emit.new.ops c.loop-operand.found.items x c.in_ok-lowered-in-Call.lowered jv.0 one),
-            both-right (is_sound x) (list_all is_sound rest) sound,
+            sound.1,
           );
     }
 
