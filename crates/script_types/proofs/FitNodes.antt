@@ -328,7 +328,7 @@ scalar-has ask.Length h = refl
 
 -- each place that asks to agree has what is agreed
 agreed-has : (row : Row) (ts : List Typed) (xs : List Argument) → ((j : ℕ) → asks-map (ask_at row j) ≡ true) → ((j : ℕ) → agrees-with (ask_at row j) row ≡ true) → arguments_at row (agreed_kind row ts) 0 ts ≡ Ok xs → (i : ℕ) → alike-has (ask_at row i) (agreed_kind row ts) ≡ true
-agreed-has row ts xs hp hg h i = by-first (first_deciding row 0 ts) (λ k e. first-has row (agreed_kind row ts) 0 ts xs k e h)
+agreed-has row ts xs hp hg h i = by-first (first_deciding row (0) ts) (λ k e. first-has row (agreed_kind row ts) 0 ts xs k e h)
   where
     by-first : (o : Option Kind) → ((k : Kind) → o ≡ Some k → (j : ℕ) × (is-alike-of (ask_at row j) k ≡ true)) → alike-has (ask_at row i) (unwrap_or o Scalar) ≡ true
     by-first None f = scalar-has (ask_at row i) (hp i)
@@ -441,7 +441,7 @@ row-good : (g : Ground) (row : Row) (ts : List Typed) (t : Typed) → IsFound (l
 row-good g row ts t hf ht h =
     let agreed = agreed_kind row ts in
     let b = value-before (arguments_at row agreed 0 ts) (λ xs. Ok (typed.Map (call_value row (given_kind row.gives agreed (map argument_kind xs)) xs))) t h in
-    let hk = agreed-plain g row 0 ts ht in
+    let hk = agreed-plain g row (0) ts ht in
     let hh = agreed-has row ts b.0 hf.asks hf.agrees b.1 in
     let all = arguments-good g row agreed 0 ts b.0 hf.asks hh hk ht b.1 in
     subst (IsGoodTyped g) (ok-one b.2) (tree-good g row agreed b.0 (subst (λ n. IsFound n row) (sym all.count) hf) hk hh all.maps all.allowed)

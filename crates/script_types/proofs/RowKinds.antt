@@ -201,8 +201,8 @@ nested-has-kinds row agreed hm h ha =
     let common = both-right (is_alike row.further) (is-common row.gives) (both-right (is_alike row.second) (is_alike row.further && is-common row.gives) rest) in
     let two = both-left (row.least == 2) (is_alike row.first && (is_alike row.second && (is_alike row.further && is-common row.gives))) few in
     let at : common_kind row (agreed ∷ agreed ∷ []) ≡ agreed = ap (λ b. kind_at (agreed ∷ agreed ∷ []) (if b then 0 else if is_alike row.second then 1 else 2)) first in
-    both-are (has_count row 2) (are_allowed row (common_kind row (agreed ∷ agreed ∷ [])) 0 (agreed ∷ agreed ∷ []) && is_kind (given_kind row.gives (common_kind row (agreed ∷ agreed ∷ [])) (agreed ∷ agreed ∷ [])) agreed)
-    (ap (λ b. if b then takes row 2 else (2 == row.least)) hm ∙ turned row.least two)
+    both-are (has_count row (2)) (are_allowed row (common_kind row (agreed ∷ agreed ∷ [])) 0 (agreed ∷ agreed ∷ []) && is_kind (given_kind row.gives (common_kind row (agreed ∷ agreed ∷ [])) (agreed ∷ agreed ∷ [])) agreed)
+    (ap (λ b. if b then takes row (2) else (2 == row.least)) hm ∙ turned row.least two)
     (subst (λ c. (are_allowed row c 0 (agreed ∷ agreed ∷ []) && is_kind (given_kind row.gives c (agreed ∷ agreed ∷ [])) agreed) ≡ true) (sym at)
     (both-are (are_allowed row agreed 0 (agreed ∷ agreed ∷ [])) (is_kind (given_kind row.gives agreed (agreed ∷ agreed ∷ [])) agreed)
     (both-are (allows agreed row.first agreed) (allows agreed row.second agreed && true) (alike-allows row.first agreed first (ha 0)) (both-are (allows agreed row.second agreed) true (alike-allows row.second agreed second (ha 1)) refl))
