@@ -158,16 +158,16 @@ forms-call inputs old mid kept k op args xs o h4 ho hk hkept has lx a kinds hr =
     let lo : length (mid ++ o ∷ []) ≡ length mid + 1 = length-append mid (o ∷ []) in
     let few : length xs ≤ 4 = omega (arith, lx, h4) in
     let own : (program : Program) → Extends program inputs mid → HasForm program (length mid) o = λ program less.
-        let given = a.operands program less in
-        let same : kinds_of program o ≡ map kind-of args = kinds-are program o xs (map (λ m. m.kind) (map meaning_of args)) has (kinds program less) few ∙ kinds-twice args in
-        record {
-          a = subst (IsBelow program (length mid)) (sym has.a) (below-at program (length mid) xs 0 given);
-          b = subst (IsBelow program (length mid)) (sym has.b) (below-at program (length mid) xs 1 given);
-          c = subst (IsBelow program (length mid)) (sym has.c) (below-at program (length mid) xs 2 given);
-          d = subst (IsBelow program (length mid)) (sym has.d) (below-at program (length mid) xs 3 given);
-          used = ap are_used_first (in-four o xs has) ∙ used-four program (length mid) xs given few;
-          kinds = subst (λ p. HasKinds (row_of p) (kinds_of program o) o.kind) (sym ho) (subst (λ ks. HasKinds (row_of op) ks o.kind) (sym same) (subst (HasKinds (row_of op) (map kind-of args)) (sym hk) (kinds-of-row (row_of op) (map kind-of args) k hr)));
-        } in
+    let given = a.operands program less in
+    let same : kinds_of program o ≡ map kind-of args = kinds-are program o xs (map (λ m. m.kind) (map meaning_of args)) has (kinds program less) few ∙ kinds-twice args in
+    record {
+      a = subst (IsBelow program (length mid)) (sym has.a) (below-at program (length mid) xs 0 given);
+      b = subst (IsBelow program (length mid)) (sym has.b) (below-at program (length mid) xs 1 given);
+      c = subst (IsBelow program (length mid)) (sym has.c) (below-at program (length mid) xs 2 given);
+      d = subst (IsBelow program (length mid)) (sym has.d) (below-at program (length mid) xs 3 given);
+      used = ap are_used_first (in-four o xs has) ∙ used-four program (length mid) xs given few;
+      kinds = subst (λ p. HasKinds (row_of p) (kinds_of program o) o.kind) (sym ho) (subst (λ ks. HasKinds (row_of op) ks o.kind) (sym same) (subst (HasKinds (row_of op) (map kind-of args)) (sym hk) (kinds-of-row (row_of op) (map kind-of args) k hr)));
+    } in
     record {
       added = a.added ++ o ∷ [];
       appended = ap (λ ops. ops ++ o ∷ []) a.appended ∙ append_assoc old a.added (o ∷ []);

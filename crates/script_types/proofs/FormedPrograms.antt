@@ -177,6 +177,7 @@ area-there script lines h = by-bound (binding_of script script.area) refl
       where
         some-none : Some b ≡ None → ⊥
         some-none z = absurd (let w = z in cc)
+
     by-bound : (o : Option Binding) → binding_of script script.area ≡ o → (i : InputUse) × (slice_get (inputs_of script) (area_number script) ≡ Some i)
     by-bound None e = (grid_input script.area Scalar, at-none (none-among (is_input_by (is_assigned script) (is_used script)) script.area 1 script.bindings (sym (bound-first script.bindings script.area) ∙ e)) (binding_of script script.area) e)
     by-bound (Some b) e =

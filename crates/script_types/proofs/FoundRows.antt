@@ -124,7 +124,9 @@ found-plain count row ht hb hi hp =
     let last = both-right second third rest in
     let more = both-right (gives-map row row.gives) (takes-few row && has-alike row) last in
     record {
-      takes = ht; built = hb; its = hi;
+      takes = ht;
+      built = hb;
+      its = hi;
       asks = λ i. at-place asks-map row i (both-left first (second && third) hp);
       agrees = λ i. at-place (λ a. agrees-with a row) row i (both-left second third rest);
       gives = both-left (gives-map row row.gives) (takes-few row && has-alike row) last;

@@ -40,6 +40,7 @@ out-writes bound statement below l n = by-test l.report _
     or-none : (t : Bool) → (t || false) ≡ t
     or-none true = refl
     or-none false = refl
+
     by-test : (b : Bool) (u : OutputUse) → writes (if b then u ∷ [] else []) n ≡ (b && is_initial n u.value)
     by-test true u = or-none (is_initial n u.value)
     by-test false u = refl
@@ -69,11 +70,12 @@ KeptRight us n (o ∷ more) = (o.kept ≡ writes us n) × KeptRight us (n + 1) m
 kept-last : (us : List OutputUse) (n : ℕ) (kept : Bool) (kind : Kind) (added : List Operation) → LastIs kept kind added → ((k : ℕ) → n ≤ k → k + 1 < n + length added → writes us k ≡ false) → ((k : ℕ) → k + 1 ≡ n + length added → writes us k ≡ kept) → KeptRight us n added
 kept-last us n kept kind [] h hf hk = tt
 kept-last us n kept kind (o ∷ []) h hf hk = (h.0 ∙ sym (hk n (let e : n + 1 ≡ n + suc zero = omega arith in e)), tt)
-kept-last us n kept kind (o ∷ p ∷ more) h hf hk =
-    (h.0 ∙ sym (hf n (omega arith) (let e : n + 1 < n + suc (suc (length more)) = omega arith in e)),
-    kept-last us (n + 1) kept kind (p ∷ more) h.1
-    (λ k lo hi. let a : n ≤ k = omega (arith, lo) in let b : k + 1 < n + suc (suc (length more)) = omega (arith, hi) in hf k a b)
-    (λ k e. let b : k + 1 ≡ n + suc (suc (length more)) = omega (arith, e) in hk k b))
+kept-last us n kept kind (o ∷ p ∷ more) h hf hk = (
+  h.0 ∙ sym (hf n (omega arith) (let e : n + 1 < n + suc (suc (length more)) = omega arith in e)),
+  kept-last us (n + 1) kept kind (p ∷ more) h.1
+      (λ k lo hi. let a : n ≤ k = omega (arith, lo) in let b : k + 1 < n + suc (suc (length more)) = omega (arith, hi) in hf k a b)
+      (λ k e. let b : k + 1 ≡ n + suc (suc (length more)) = omega (arith, e) in hk k b),
+)
 
 kept-append : (us : List OutputUse) (n : ℕ) (xs ys : List Operation) → KeptRight us n xs → KeptRight us (n + length xs) ys → KeptRight us n (xs ++ ys)
 kept-append us n [] ys hx hy = let e : n + 0 ≡ n = omega arith in subst (λ k. KeptRight us k ys) e hy
@@ -89,25 +91,28 @@ kept-all bound statement before (l ∷ ls) ops front h ha hf =
     let some = ha.0 in
     let count : length h.0 ≡ k = h.3 in
     let here : KeptRight (front ++ (out ++ rest)) before h.0 = kept-last (front ++ (out ++ rest)) before l.report l.kind h.0 h.4
-        (λ n lo hi. writes-both front (out ++ rest) n (hf n lo) (writes-both out rest n (out-not bound statement (before + k) l n (omega (arith, hi, count))) (later-not bound (statement + 1) (before + k) ls n ha.1 (omega (arith, hi, count)))))
-        (λ n e.
-        let at : (before + k - 1 == n) ≡ true = (let z : before + k - 1 ≡ n = omega (arith, e, count) in grind (arith, z)) in
-        last-written front out rest n l.report (hf n (omega (arith, e, count, some))) (out-writes bound statement (before + k) l n ∙ with-true l.report (before + k - 1 == n) at) (later-not bound (statement + 1) (before + k) ls n ha.1 (omega (arith, e, count)))) in
+    (λ n lo hi. writes-both front (out ++ rest) n (hf n lo) (writes-both out rest n (out-not bound statement (before + k) l n (omega (arith, hi, count))) (later-not bound (statement + 1) (before + k) ls n ha.1 (omega (arith, hi, count)))))
+    (λ n e.
+    let at : (before + k - 1 == n) ≡ true = (let z : before + k - 1 ≡ n = omega (arith, e, count) in grind (arith, z)) in
+    last-written front out rest n l.report (hf n (omega (arith, e, count, some))) (out-writes bound statement (before + k) l n ∙ with-true l.report (before + k - 1 == n) at) (later-not bound (statement + 1) (before + k) ls n ha.1 (omega (arith, e, count)))) in
     let there : KeptRight ((front ++ out) ++ rest) (before + k) h.1 = kept-all bound (statement + 1) (before + k) ls h.1 (front ++ out) h.5 ha.1
-        (λ n lo. writes-both front out n (hf n (omega (arith, lo))) (out-writes bound statement (before + k) l n ∙ with-false l.report (before + k - 1 == n) (let z : before + k ≤ n = lo in let y : (before + k - 1 == n) ≡ false = grind (arith, z, some) in y))) in
+    (λ n lo. writes-both front out n (hf n (omega (arith, lo))) (out-writes bound statement (before + k) l n ∙ with-false l.report (before + k - 1 == n) (let z : before + k ≤ n = lo in let y : (before + k - 1 == n) ≡ false = grind (arith, z, some) in y))) in
     subst (KeptRight (front ++ (out ++ rest)) before) (sym h.2) (kept-append (front ++ (out ++ rest)) before h.0 h.1 here
     (subst (λ m. KeptRight (front ++ (out ++ rest)) (before + m) h.1) (sym count) (subst (λ us. KeptRight us (before + k) h.1) (append_assoc front out rest) there)))
   where
     with-true : (b t : Bool) → t ≡ true → (b && t) ≡ b
     with-true true t e = e
     with-true false t e = refl
+
     with-false : (b t : Bool) → t ≡ false → (b && t) ≡ false
     with-false true t e = e
     with-false false t e = refl
+
     between : (a b c x : Bool) → a ≡ false → b ≡ x → c ≡ false → (a || (b || c)) ≡ x
     between false true c x ha hb hc = hb
     between false false c x ha hb hc = hc ∙ hb
     between true b c x ha hb hc = cc
+
     last-written : (front out rest : List OutputUse) (n : ℕ) (x : Bool) → writes front n ≡ false → writes out n ≡ x → writes rest n ≡ false → writes (front ++ (out ++ rest)) n ≡ x
     last-written front out rest n x hf ho hr = list_any-append (λ u. is_initial n u.value) front (out ++ rest) ∙ ap (λ b. writes front n || b) (list_any-append (λ u. is_initial n u.value) out rest) ∙ between (writes front n) (writes out n) (writes rest n) x hf ho hr
 

@@ -168,6 +168,7 @@ least-below row n ha h ht = by-test (is_alike (ask_at row (first_alike row))) (n
   where
     count : (least most at n : ℕ) → nat_lt at least ≡ true → (nat_le least n && nat_le n most) ≡ true → at < n
     count least most at n g k = let m = both-left (nat_le least n) (nat_le n most) k in grind (arith, m, g)
+
     by-test : (p q : Bool) → nat_lt (first_alike row) row.least ≡ q → p ≡ true → (not p || q) ≡ true → first_alike row < n
     by-test true true e hp g = count row.least row.most (first_alike row) n e ht
     by-test true false e hp g = cc
@@ -210,6 +211,7 @@ nested-has-kinds row agreed hm h ha =
   where
     turned : (n : ℕ) → (n == 2) ≡ true → (2 == n) ≡ true
     turned n g = grind (arith, g)
+
     by-gives : (gives : Given) → is-common gives ≡ true → is_kind (given_kind gives agreed (agreed ∷ agreed ∷ [])) agreed ≡ true
     by-gives given.Common g = kind-itself agreed
     by-gives (given.Always k) g = cc

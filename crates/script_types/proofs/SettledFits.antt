@@ -70,9 +70,10 @@ operands-good s inputs (p ∷ es) role ts hu h =
     let rest = all_of (in_roles used.Grid (map (operand_as s) (map (λ q. q.0) es))) in
     let b = value-before (operand_as s p.0 role) (λ t. rest >>= λ us. Ok (t ∷ us)) ts h in
     let c = value-before rest (λ us. Ok (b.0 ∷ us)) ts b.2 in
-    subst (AllGood (ground-of s inputs)) (ok-one c.2)
-    (p.1 false role b.0 (neither-left (calls_unbuilt p.0) (list_any calls_unbuilt (map (λ q. q.0) es)) hu) b.1,
-    operands-good s inputs es used.Grid c.0 (neither-right (calls_unbuilt p.0) (list_any calls_unbuilt (map (λ q. q.0) es)) hu) c.1)
+    subst (AllGood (ground-of s inputs)) (ok-one c.2) (
+      p.1 false role b.0 (neither-left (calls_unbuilt p.0) (list_any calls_unbuilt (map (λ q. q.0) es)) hu) b.1,
+      operands-good s inputs es used.Grid c.0 (neither-right (calls_unbuilt p.0) (list_any calls_unbuilt (map (λ q. q.0) es)) hu) c.1,
+    )
 
 node-good : (s : Scope) (inputs : List InputUse) → IsGoodScope s inputs → (y : Expr-F ((x : Expr) × GoodAt s inputs x)) → GoodAt s inputs (roll-Expr (map-Expr ((x : Expr) × GoodAt s inputs x) Expr (λ p. p.0) y))
 node-good s inputs hs (Expr-F.Name name) = subst (GoodAt s inputs) (sym (rolls-Name name)) (λ w role t hu h. name-good s inputs role name t hs (sym (typed_name s name w role) ∙ h))
@@ -176,6 +177,7 @@ above-plain (l ∷ ls) name k hd h = by-later (kind_above ls name) (bytes_eq nam
     not-true : (b : Bool) → not b ≡ true → b ≡ false
     not-true false g = refl
     not-true true g = cc
+
     by-later : (later : Option Kind) (t : Bool) → (later ≡ Some k → is_kind Ldd k ≡ false) → is_kind Ldd l.kind ≡ false → or_kind later (if t then Some l.kind else None) ≡ Some k → is_kind Ldd k ≡ false
     by-later (Some x) t ih hl g = ih g
     by-later None true ih hl g = let z : l.kind ≡ k = cc in sym (ap (is_kind Ldd) z) ∙ hl

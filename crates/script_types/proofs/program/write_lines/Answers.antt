@@ -65,8 +65,7 @@ loop-at-preserved c =
           let f = inv.formed inputs fit sound grids in
           let here = subst (LinesFit inputs (take at lines)) left v.1 in
           let left-sound = sym (ap are_sound left) ∙ f.1 in
-          let number = ap (λ n. n + 1) (sym (length-take-le at lines (omega (arith, below)))) in
-          (
+          let number = ap (λ n. n + 1) (sym (length-take-le at lines (omega (arith, below)))) in (
             subst (HaveForms inputs c.write_line.new.written.ops) (sym front) (c.in_ok-write_line.ensures.formed inputs (take at lines) number here.0 (both-left (is_sound l.statement.value) (are_sound rest) left-sound) grids v.0 f.0),
             both-right (is_sound l.statement.value) (are_sound rest) left-sound,
           );
