@@ -1,0 +1,5 @@
+pub mod Ends
+pub mod Evaluation
+pub mod Course
+pub mod Asked
+pub mod inside

@@ -1,0 +1,145 @@
+-- What the parts of a session answer.
+use Rattle.std.specs.Prelude.{◌≡◌, ◌⊎◌, ◌*◌, ◌==◌, ◌<◌, ℕ, Bool, true, List, [], ◌∷◌, ◌++◌, length, map, slice_get, slice_range, Some, None, IfSome, Result, Ok, Err, All, if◌then◌else◌, ⊤}
+use Rattle.std.specs.declared.option.Option.{Option}
+use Rattle.std.specs.List.{list_any}
+use Rattle.cell_values.specs.declared.kind.Kind.{Kind}
+use Rattle.text_base.specs.Results.{◌>>=◌}
+use Rattle.outside_io.specs.State.{FolderState}
+use Rattle.outside_io.specs.Events.{Run}
+use Rattle.outside_io.specs.Causes.{ReadFault, WriteFault, NoMemory, RunOutcome, CameTo, CutOff, outcome_by, stopped_by, why_by}
+use Rattle.outside_io.specs.Met.{Meets}
+use Rattle.outside_io.specs.inside.Parts.{Settles}
+use Rattle.grid_text.specs.declared.grid.Grid.{Grid}
+use Rattle.grid_text.specs.Form.{IsSize}
+use Rattle.map_meaning.specs.declared.known.Known.{Known}
+use Rattle.map_meaning.specs.declared.known.OverAt.{OverAt}
+use Rattle.map_meaning.specs.declared.known.StageEnd.{StageEnd}
+use Rattle.map_meaning.specs.declared.known.StepMap.{StepMap}
+use Rattle.map_meaning.specs.declared.program.InputUse.{InputUse}
+use Rattle.map_meaning.specs.declared.program.Operand.{Operand}
+use Rattle.map_meaning.specs.declared.program.Operand.TheVariants.{Unused, Literal, Input, Initial}
+use Rattle.map_meaning.specs.declared.program.OutputUse.{OutputUse}
+use Rattle.map_meaning.specs.declared.program.Program.{Program}
+use Rattle.map_meaning.specs.Evaluation.{operation_values}
+use Rattle.map_meaning.specs.Maps.{WholeMap, IsMapOf}
+use Rattle.map_meaning.specs.Spans.{AreInputMaps, Knows, RunOf, kept_map, scene_of, whole_span}
+use Rattle.script_types.specs.Values.{Written, program_reports}
+use Rattle.run_session.specs.declared.ends.InputKind.{InputKind}
+use Rattle.run_session.specs.declared.ends.Stop.{Stop}
+use Rattle.run_session.specs.declared.ends.Stop.TheVariants as stop
+use Rattle.run_session.specs.declared.ends.Tally.{Tally}
+use Rattle.run_session.specs.declared.inputs.Area.{Area}
+use Rattle.run_session.specs.declared.inputs.Inputs.{Inputs}
+use Rattle.run_session.specs.Course.{Many, or_overflow}
+use Rattle.run_session.specs.Ends.{ScriptEnd, why}
+use Rattle.run_session.specs.Ends.{Missing, TooLong, Script, Unbuilt, Input as InputIs, TooManyTasks, Overflow}
+use Rattle.run_session.specs.Evaluation.{known_of}
+
+-- ---- parts of a run
+
+-- how the run of a script came out that stopped so
+abbrev pub stop_outcome : Stop → RunOutcome ScriptEnd
+stop_outcome (stop.Missing name) = CameTo (Missing name)
+stop_outcome (stop.TooLong name) = CameTo (TooLong name)
+stop_outcome (stop.Script fault) = CameTo (Script fault)
+stop_outcome (stop.Unbuilt name) = CameTo (Unbuilt name)
+stop_outcome (stop.Input name kind) = CameTo (InputIs name kind)
+stop_outcome (stop.TooManyTasks count) = CameTo (TooManyTasks count)
+stop_outcome (stop.Overflow at) = CameTo (Overflow at)
+stop_outcome (stop.FolderReadFault name) = CutOff (ReadFault name)
+stop_outcome (stop.FolderWriteFault name) = CutOff (WriteFault name)
+stop_outcome stop.Memory = CutOff NoMemory
+
+-- a call made this part of a script's run, and answers so
+abbrev pub Makes : {X : Type 0} → Run (Result X ScriptEnd) → FolderState → FolderState → Result X Stop → Type 0
+Makes run old new result = Meets (why_by why) run old new (outcome_by stop_outcome result)
+
+-- a call that touches no folder answers this, or that there is no memory
+abbrev pub GivesEnd : {X : Type 0} → Result X ScriptEnd → Result X Stop → Type 0
+GivesEnd end result = Settles (why_by why) end (outcome_by stop_outcome result)
+
+-- a call that touches no folder stops the run so, or there is no memory
+abbrev pub StopsAt : {X : Type 0} → Result X ScriptEnd → Stop → Type 0
+StopsAt end at = Settles (why_by why) end (stopped_by (stop_outcome at))
+
+-- the end at this input, which is not as it is to be, or want of memory
+abbrev pub IsInputEnd : List ℕ → InputKind → Stop → Type 0
+IsInputEnd name kind end = (end ≡ stop.Input name kind) ⊎ (end ≡ stop.Memory)
+
+-- ---- inputs
+
+-- the area map as a grid
+abbrev pub as_grid : Area → Grid
+as_grid area = record { rows = area.frame.rows; cols = area.frame.cols; head = area.frame.head; cells = area.cells }
+
+-- one more map of this kind
+abbrev pub AddsMap : ℕ → Kind → List WholeMap → List WholeMap → Type 0
+AddsMap places kind old new = (m : WholeMap) × (new ≡ old ++ m ∷ []) × IsMapOf places kind m
+
+-- the cells are those of an input with this number
+abbrev pub HasAreaMap : ℕ → ℕ → List InputUse → WholeMap → Type 0
+HasAreaMap places number list cells = IfSome (slice_get list number) (λ input. IsMapOf places input.kind cells)
+
+-- the maps of these inputs, of a size that is within the limits
+pub record AreInputsOf (list : List InputUse) (inputs : Inputs) : Type 0 where
+  pub size : IsSize inputs.frame.rows inputs.frame.cols
+  pub maps : AreInputMaps (inputs.frame.rows * inputs.frame.cols) list inputs.maps
+
+-- ---- the section `initial`
+
+-- the kept maps of a span, or its first Over
+abbrev pub kept_or_over : List StepMap → Option OverAt → Result (List StepMap) OverAt
+kept_or_over maps None = Ok maps
+kept_or_over maps (Some at) = Err at
+
+-- what a span gives, as a part of the run
+abbrev pub stage_result : StageEnd → Result (List StepMap) ScriptEnd
+stage_result end = or_overflow (kept_or_over end.maps end.over)
+
+-- the kept map of an operand that names an operation of `initial`
+abbrev pub kept_of : List StepMap → Operand → WholeMap
+kept_of maps Unused = []
+kept_of maps (Literal kind cell) = []
+kept_of maps (Input n) = []
+kept_of maps (Initial n) = kept_map maps n
+
+-- what an output writes, from the kept maps
+abbrev pub kept_written : List StepMap → OutputUse → Written
+kept_written maps output = record { file = output.file; kind = output.cell_kind; cells = kept_of maps output.value }
+
+-- the map of this operation is kept
+abbrev pub has_kept : ℕ → List StepMap → Bool
+has_kept n maps = list_any (λ m. m.operation == n) maps
+
+-- the output writes a map that is kept, and it has all its cells
+pub record IsKept (places : ℕ) (maps : List StepMap) (output : OutputUse) : Type 0 where
+  pub number : ℕ
+  pub value : output.value ≡ Initial number
+  pub kept : has_kept number maps ≡ true
+  pub count : length (kept_map maps number) ≡ places
+
+-- what the outputs of a program write, by its operations
+abbrev pub outputs_over : Program → Inputs → Result (List Written) OverAt
+outputs_over program inputs = program_reports program (scene_of (known_of inputs) 0)
+
+-- wherever the inputs are known, the program's operations report this
+abbrev pub HasReports : Program → (Inputs → Result (List Written) OverAt) → Type 0
+HasReports program reports = (inputs : Inputs) → Knows program (whole_span program) (known_of inputs) → reports inputs ≡ outputs_over program inputs
+
+-- the runner finds these counts in the program
+abbrev pub HasCounts : (Program → ℕ → ℕ → Option ℕ) → Program → Many → Type 0
+HasCounts admits program many = (rows cols : ℕ) → many rows cols ≡ admits program rows cols
+
+-- the runner was asked for this program over these inputs, and for nothing else
+abbrev pub WasRun : (List RunOf → Type 0) → Program → Inputs → Type 0
+WasRun asked program inputs = asked (record { program = program; span = whole_span program; known = known_of inputs } ∷ [])
+
+-- the runner was asked for this program over known values that hold what it reads, and for nothing else
+pub record WasProgram (asked : List RunOf → Type 0) (program : Program) : Type 0 where
+  pub inputs : Inputs
+  pub knows : Knows program (whole_span program) (known_of inputs)
+  pub run : WasRun asked program inputs
+
+-- what was done: so many files put, up to this step
+abbrev pub tally_of : ℕ → ℕ → Tally
+tally_of files steps = record { files = files; steps = steps }

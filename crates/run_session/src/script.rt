@@ -1,0 +1,57 @@
+ghost use Rattle.std.specs.Prelude.{◌≤◌, length, IfErr, IfOk};
+ghost use Rattle.text_base.specs.Limits.{most_script_bytes};
+ghost use Rattle.script_syntax.specs.inside.Reading.{tree_of};
+ghost use Rattle.script_types.specs.Answers.{IsLowered};
+ghost use Rattle.script_types.specs.Made.{IsMade};
+ghost use Rattle.run_session.specs.Course.{or_syntax, settled_lines, text_run};
+ghost use Rattle.run_session.specs.inside.Parts.{GivesEnd, Makes, StopsAt};
+
+use crate::ends::{ScriptFault, Stop};
+use crate::files::fetch;
+use cell_values::Word;
+use map_meaning::Program;
+use outside_io::Folder;
+use script_syntax::{ReadScript, Script, read_script};
+use script_types::{LowerEnd, lower};
+use std::alloc::Global;
+use text_base::MOST_SCRIPT_BYTES;
+
+// The script of a text.
+fn parse_script(alloc: Global, text: &[u8]) -> Result<Script, Stop>
+    requires { length text.now ≤ most_script_bytes }
+    ensures settles { GivesEnd (or_syntax (tree_of text.now)) result }
+    ensures made { IfOk result IsMade }
+{
+    match read_script(alloc, text) {
+        Ok(script) => Ok(script),
+        Err(ReadScript::Syntax(fault)) => Err(Stop::Script(ScriptFault::Syntax(fault))),
+        Err(ReadScript::Memory) => Err(Stop::Memory),
+    }
+}
+
+/// Reads a script.
+pub fn script_at<F: Folder>(alloc: Global, folder: &mut F, name: &Word) -> Result<Script, Stop>
+    ensures meets { Makes (text_run name.now) (F.state folder.old) (F.state folder.new) result }
+    ensures made { IfOk result IsMade }
+{
+    let text = fetch(alloc, folder, name, MOST_SCRIPT_BYTES)?;
+    parse_script(alloc, &text)
+}
+
+/// The program of the script of this name.
+#[tactic(auto, unfolding(crate::specs::Course::settled_lines))]
+pub fn program_of(alloc: Global, name: &Word, script: &Script) -> Result<Program, Stop>
+    requires { IsMade script.now }
+    ensures lowered { IfOk result (IsLowered script.now) }
+    ensures stops { IfErr result (StopsAt (settled_lines name.now script.now)) }
+{
+    match lower(alloc, script) {
+        Ok(program) => Ok(program),
+        Err(LowerEnd::Meaning(fault)) => Err(Stop::Script(ScriptFault::Meaning(fault))),
+        Err(LowerEnd::Unbuilt) => match name.twin(alloc) {
+            Ok(word) => Err(Stop::Unbuilt(word)),
+            Err(_) => Err(Stop::Memory),
+        },
+        Err(LowerEnd::Memory) => Err(Stop::Memory),
+    }
+}

@@ -1,0 +1,148 @@
+ghost use Rattle.std.specs.Prelude.{◌≡◌, [], ◌∷◌, List, length, Result, OnOk};
+ghost use Rattle.script_syntax.specs.declared.tree.Script.{Script as TheScript};
+ghost use Rattle.map_meaning.specs.declared.known.OverAt.{OverAt};
+ghost use Rattle.outside_io.specs.Met.{Meets};
+ghost use Rattle.map_meaning.specs.Programs.{IsWellFormed};
+ghost use Rattle.script_types.specs.Values.{Written};
+ghost use Rattle.run_session.specs.declared.inputs.Inputs.{Inputs as TheInputs};
+ghost use Rattle.run_session.specs.Asked.{Counts, IfDone, WasAsked};
+ghost use Rattle.run_session.specs.Course.{Many, parts_run, script_run, start_run, whole_run};
+ghost use Rattle.run_session.specs.Ends.{session_outcome, why};
+ghost use Rattle.run_session.specs.inside.Parts.{AreInputsOf, HasCounts, HasReports, Makes, WasProgram, WasRun, outputs_over, stop_outcome, tally_of};
+
+use crate::ends::{SessionEnd, Stop, Tally};
+use crate::evaluating::{admitted, evaluate};
+use crate::inputs::{Inputs, read_inputs};
+use crate::reports::put_reports;
+use crate::script::{program_of, script_at};
+use cell_values::Word;
+use map_meaning::{BlockRunner, Known, Program};
+use outside_io::Folder;
+use sqlite_items::Items;
+use std::alloc::Global;
+use std::sync::Arc;
+
+// What was done once all outputs of a program are put.
+fn tally(program: &Program) -> Tally
+    ensures { result ≡ tally_of (length program.now.outputs) program.now.steps }
+{
+    Tally {
+        files: program.outputs.len() as u64,
+        steps: program.steps,
+    }
+}
+
+// Evaluates the section `initial` over the inputs, and puts what it reports.
+fn run_start<F: Folder, R: BlockRunner>(
+    alloc: Global,
+    folder: &mut F,
+    runner: &mut R,
+    program: &Arc<Program>,
+    inputs: Inputs,
+) -> Result<Tally, Stop>
+    requires ready { R.ready runner.old }
+    requires program { IsWellFormed program.now.value }
+    requires inputs { AreInputsOf program.now.value.inputs inputs }
+    ensures meets { Makes
+        (start_run (R.admits runner.old program.now.value inputs.frame.rows inputs.frame.cols) (outputs_over program.now.value inputs) program.now.value.steps inputs.frame)
+        (F.state folder.old) (F.state folder.new) result }
+    ensures ready { R.ready runner.new }
+    ensures asked { R.asked runner.old [] → OnOk result (WasRun (R.asked runner.new) program.now.value inputs) }
+{
+    let Inputs { frame, maps } = inputs;
+    admitted(runner, program, frame.rows, frame.cols)?;
+    let known = Known {
+        rows: frame.rows,
+        cols: frame.cols,
+        maps,
+        initial: Items::new(alloc),
+    };
+    let kept = evaluate(alloc, runner, program, known)?;
+    let outputs = program.outputs.as_slice();
+    put_reports(alloc, folder, &frame, kept.as_slice(), outputs)?;
+    Ok(tally(program))
+}
+
+// Runs a program.
+fn run_program<F: Folder, R: BlockRunner>(
+    alloc: Global,
+    folder: &mut F,
+    runner: &mut R,
+    program: Program,
+) -> Result<Tally, Stop>
+    requires ready { R.ready runner.old }
+    requires program { IsWellFormed program }
+    ensures meets { (many : Many) (reports : TheInputs → Result (List Written) OverAt) → HasCounts (R.admits runner.old) program many → HasReports program reports
+        → Makes (parts_run many reports program.inputs program.area program.steps) (F.state folder.old) (F.state folder.new) result }
+    ensures ready { R.ready runner.new }
+    ensures asked { R.asked runner.old [] → OnOk result (WasProgram (R.asked runner.new) program) }
+{
+    let inputs = read_inputs(alloc, folder, &program)?;
+    let program = Arc::new(alloc, program)?;
+    run_start(alloc, folder, runner, &program, inputs)
+}
+
+// Reads the script of this name, and runs its program.
+fn run_named<F: Folder, R: BlockRunner>(
+    alloc: Global,
+    folder: &mut F,
+    runner: &mut R,
+    name: &Word,
+) -> Result<Tally, Stop>
+    requires ready { R.ready runner.old }
+    ensures meets { (many : TheScript → Many) → Counts (R.admits runner.old) many
+        → Makes (whole_run many name.now) (F.state folder.old) (F.state folder.new) result }
+    ensures ready { R.ready runner.new }
+    ensures asked { R.asked runner.old [] → OnOk result (WasAsked (R.asked runner.new)) }
+{
+    let script = script_at(alloc, folder, name)?;
+    let program = program_of(alloc, name, &script)?;
+    run_program(alloc, folder, runner, program)
+}
+
+// The answer for a stop.
+fn session_end(stop: Stop) -> SessionEnd
+    ensures outcome { session_outcome result ≡ stop_outcome stop }
+    ensures stopped { IfDone result ⊥ }
+{
+    match stop {
+        Stop::Missing(name) => SessionEnd::Missing(name),
+        Stop::TooLong(name) => SessionEnd::TooLong(name),
+        Stop::Script(fault) => SessionEnd::Script(fault),
+        Stop::Unbuilt(name) => SessionEnd::Unbuilt(name),
+        Stop::Input { name, kind } => SessionEnd::Input { name, kind },
+        Stop::TooManyTasks(count) => SessionEnd::TooManyTasks(count),
+        Stop::Overflow(at) => SessionEnd::Overflow(at),
+        Stop::FolderReadFault(name) => SessionEnd::FolderReadFault(name),
+        Stop::FolderWriteFault(name) => SessionEnd::FolderWriteFault(name),
+        Stop::Memory => SessionEnd::Memory,
+    }
+}
+
+/// Runs the script of this name, by the runner, over the files of the folder.
+///
+/// The script is read, then the area map, then each other input in the order of the section `binding`; the runner
+/// evaluates the section `initial`; and what its statements report is put, in their order, with the head of the area map.
+/// After a put that failed nothing more is put.
+pub fn run_script<F: Folder, R: BlockRunner>(
+    alloc: Global,
+    folder: &mut F,
+    runner: &mut R,
+    name: &Word,
+) -> SessionEnd
+    requires ready { R.ready runner.old }
+    // Which files are read and put, in which order, with which end, and why each answer comes.
+    ensures meets { (many : TheScript → Many) → Counts (R.admits runner.old) many
+        → Meets why (script_run many name.now) (F.state folder.old) (F.state folder.new) (session_outcome result) }
+    ensures ready { R.ready runner.new }
+    // A runner that keeps a record of its runs has those of the script, where this was run to its end.
+    ensures asked { R.asked runner.old [] → IfDone result (WasAsked (R.asked runner.new)) }
+{
+    match run_named(alloc, folder, runner, name) {
+        Ok(tally) => SessionEnd::Done {
+            files: tally.files,
+            steps: tally.steps,
+        },
+        Err(stop) => session_end(stop),
+    }
+}
