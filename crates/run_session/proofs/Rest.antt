@@ -1,27 +1,38 @@
 -- What is left of a run after each of its parts.
-use Rattle.std.proofs.Common.{◌≡◌, false, cond, refl, ap, ◌∙◌}
-use Rattle.std.specs.Prelude.{List, ℕ, [], length, Ok, Err, Result}
+use Rattle.std.proofs.Common.{◌≡◌, false, cond, refl, sym, ap, subst, ◌∙◌}
+use Rattle.std.specs.Prelude.{List, ℕ, [], length, Ok, Err, Result, IfOk, IfErr, IsErrAnd}
+use Rattle.std.specs.declared.option.Option.{Option}
+use Rattle.outside_io.specs.State.{FolderState}
 use Rattle.outside_io.specs.Events.{Run}
 use Rattle.outside_io.specs.Runs.{◌>>=◌, in_turn, settled}
+use Rattle.outside_io.specs.Causes.{CameTo, CutOff, RunOutcome, outcome_as, stopped_by, why_by}
+use Rattle.outside_io.specs.Met.{Follows, Meets}
+use Rattle.outside_io.proofs.Callers.{if_told, meets_on, meets_settled}
 use Rattle.script_syntax.specs.declared.tree.Script.{Script}
 use Rattle.map_meaning.specs.declared.known.OverAt.{OverAt}
 use Rattle.map_meaning.specs.declared.program.InputUse.{InputUse}
+use Rattle.map_meaning.specs.declared.program.Program.{Program}
+use Rattle.map_meaning.specs.Spans.{Knows, RunOf, whole_span}
 use Rattle.grid_text.specs.declared.grid.Grid.{Grid}
-use Rattle.map_meaning.specs.Maps.{WholeMap}
-use Rattle.script_types.specs.declared.typed.Line.{Line}
+use Rattle.script_types.specs.Answers.{IsLowered}
 use Rattle.script_types.specs.Meaning.{meaning}
-use Rattle.script_types.specs.Values.{Written}
+use Rattle.script_types.specs.declared.typed.Line.{Line}
 use Rattle.script_types.specs.Unbuilt.{is_unbuilt}
+use Rattle.script_types.specs.Values.{Written}
 use Rattle.run_session.specs.declared.ends.SessionEnd.{SessionEnd}
 use Rattle.run_session.specs.declared.ends.SessionEnd.TheVariants as session
+use Rattle.run_session.specs.declared.ends.Stop.{Stop}
 use Rattle.run_session.specs.declared.ends.Tally.{Tally}
-use Rattle.run_session.specs.Asked.{IfDone}
+use Rattle.run_session.specs.Asked.{Counts, IfDone, WasAsked, runs_of}
 use Rattle.run_session.specs.declared.inputs.Frame.{Frame}
 use Rattle.run_session.specs.declared.inputs.Inputs.{Inputs}
-use Rattle.run_session.specs.Course.{Many, frame_of, lines_run, one_more_map, or_meaning, or_overflow, report_run, settled_lines, start_run}
-use Rattle.outside_io.specs.Causes.{CameTo, CutOff, RunOutcome, outcome_as, stopped_by, why_by}
+use Rattle.run_session.specs.Course.{CheckedScript, Loaded, Many, checked_run, checked_script, frame_of, load_run, loaded_run}
+use Rattle.run_session.specs.Course.{one_more_map, or_meaning, or_overflow, report_run, start_run, text_run}
 use Rattle.run_session.specs.Ends.{ScriptEnd, Unbuilt, script_end, why}
-use Rattle.run_session.specs.inside.Parts.{tally_of}
+use Rattle.run_session.specs.Evaluation.{known_of, reports_of}
+use Rattle.run_session.specs.inside.Parts.{AreInputsOf, IsProgramFor, MakesFor, StopsAt, WasRun, outputs_over, stop_outcome, tally_of}
+
+-- ---- what is left
 
 -- what is left once the area map is read
 abbrev pub after_area : List InputUse → ℕ → Grid → Run (Result Inputs ScriptEnd)
@@ -35,18 +46,80 @@ after_reports steps frame reports = in_turn (report_run frame) tt reports >>= λ
 abbrev pub after_count : Result (List Written) OverAt → ℕ → Frame → Unit {0} → Run (Result Tally ScriptEnd)
 after_count reports steps frame few = settled (or_overflow reports) >>= after_reports steps frame
 
+-- what is left once the text of a script is read
+abbrev pub after_text : List ℕ → Script → Run (Result CheckedScript ScriptEnd)
+after_text name script = settled (checked_script name script)
+
 -- what is left once the inputs are read
-abbrev pub after_inputs : Many → (Inputs → Result (List Written) OverAt) → ℕ → Inputs → Run (Result Tally ScriptEnd)
-after_inputs many reports steps inputs = start_run (many inputs.frame.rows inputs.frame.cols) (reports inputs) steps inputs.frame
+abbrev pub after_inputs : CheckedScript → Inputs → Run (Result Loaded ScriptEnd)
+after_inputs s inputs = settled (Ok (record { script = s.script; lines = s.lines; inputs = inputs }))
 
--- what is left once the script is read
-abbrev pub after_text : (Script → Many) → List ℕ → Script → Run (Result Tally ScriptEnd)
-after_text many name script = settled (settled_lines name script) >>= lines_run (many script) script
+-- ---- a program for a script
 
--- the settled statements of a script without faults
-pub lines_settled : (name : List ℕ) (script : Script) (lines : List Line) → is_unbuilt script ≡ false → meaning script ≡ Ok lines → settled_lines name script ≡ Ok lines
-unfolding settled_lines
-lines_settled name script lines built meant = ap (λ b. cond b (Err (Unbuilt name)) (or_meaning (meaning script))) built ∙ ap or_meaning meant
+-- a `?` hands an error on
+pub makes_out : {X Y : Type 0} (Is : X → Y → Type 0) (run : Run (Result X ScriptEnd)) (old new : FolderState) (result : Result Y Stop) (d : Stop) → IsErrAnd result (λ e. e ≡ d) →
+    Meets (why_by why) run old new (stopped_by (stop_outcome d)) → MakesFor Is run old new result
+makes_out Is run old new (Ok y) d is m = absurd is
+makes_out Is run old new (Err e) d is m = subst (λ e. Meets (why_by why) run old new (stopped_by (stop_outcome e))) (sym is) m
+
+-- a script that is built and has no fault, with its settled statements
+script_checked : (name : List ℕ) (script : Script) (lines : List Line) → is_unbuilt script ≡ false → meaning script ≡ Ok lines → checked_script name script ≡ Ok (record { script = script; lines = lines })
+unfolding checked_script
+script_checked name script lines built meant = ap (λ b. cond b (Err (Unbuilt name)) (or_meaning script (meaning script))) built ∙ ap (or_meaning script) meant
+
+-- the program of a script that was read
+pub program_made : (name : List ℕ) (script : Script) (old mid : FolderState) (r : Result Program Stop) → IfOk r (IsLowered script) → IfErr r (StopsAt (checked_script name script)) →
+    Meets (why_by why) (text_run name) old mid (CameTo (Ok script)) → MakesFor IsProgramFor (checked_run name) old mid r
+program_made name script old mid (Ok program) lowered stops m =
+    let s : CheckedScript = record { script = script; lines = lowered.lines } in (
+      s,
+      record { lowered = lowered; lines = refl },
+      meets_on why (text_run name) (after_text name) old mid mid script (CameTo (Ok s)) m
+          (meets_settled (why_by why) (checked_script name script) mid (CameTo (Ok s)) (script_checked name script lowered.lines lowered.built lowered.meant, refl)),
+    )
+program_made name script old mid (Err at) lowered stops m =
+    meets_on why (text_run name) (after_text name) old mid mid script (stopped_by (stop_outcome at)) m
+    (meets_settled (why_by why) (checked_script name script) mid (stopped_by (stop_outcome at)) stops)
+
+-- inputs that were read are known
+pub ready_knows : (program : Program) (inputs : Inputs) → AreInputsOf program.inputs inputs → Knows program (whole_span program) (known_of inputs)
+ready_knows program inputs are = record { some_rows = are.size.some_rows; some_cols = are.size.some_cols; few = are.size.few; maps = are.maps }
+
+-- ---- what was read is run
+
+module _ (l : Loaded) (program : Program) (for : IsProgramFor (record { script = l.script; lines = l.lines }) program) (inputs : Inputs) (same : inputs ≡ l.inputs) (are : AreInputsOf program.inputs inputs) where
+  -- its program reports what its statements do
+  reports_same : outputs_over program inputs ≡ reports_of l.script l.lines l.inputs
+  reports_same =
+      for.lowered.values.same (known_of inputs) (ready_knows program inputs are) ∙ (ap (λ lines. reports_of l.script lines inputs) for.lines ∙ ap (reports_of l.script l.lines) same)
+
+  -- its program is run as it is
+  pub start_same : (admits : Program → ℕ → ℕ → Option ℕ) (many : Script → Many) → Counts admits many →
+      start_run (admits program inputs.frame.rows inputs.frame.cols) (outputs_over program inputs) program.steps inputs.frame ≡ loaded_run many l
+  start_same admits many counts =
+      let frame = inputs.frame in
+      let first : start_run (admits program frame.rows frame.cols) (outputs_over program inputs) program.steps frame ≡ start_run (many l.script frame.rows frame.cols) (outputs_over program inputs) program.steps frame =
+      ap (λ m. start_run m (outputs_over program inputs) program.steps frame) (sym (counts l.script program for.lowered frame.rows frame.cols)) in
+      let second : start_run (many l.script frame.rows frame.cols) (outputs_over program inputs) program.steps frame ≡ start_run (many l.script frame.rows frame.cols) (reports_of l.script l.lines l.inputs) program.steps frame =
+      ap (λ r. start_run (many l.script frame.rows frame.cols) r program.steps frame) reports_same in
+      let third : start_run (many l.script frame.rows frame.cols) (reports_of l.script l.lines l.inputs) program.steps frame ≡ start_run (many l.script frame.rows frame.cols) (reports_of l.script l.lines l.inputs) l.script.steps frame =
+      ap (λ n. start_run (many l.script frame.rows frame.cols) (reports_of l.script l.lines l.inputs) n frame) for.lowered.program_of.steps in
+      let fourth : start_run (many l.script frame.rows frame.cols) (reports_of l.script l.lines l.inputs) l.script.steps frame ≡ loaded_run many l =
+      ap (λ (i : Inputs). start_run (many l.script i.frame.rows i.frame.cols) (reports_of l.script l.lines l.inputs) l.script.steps i.frame) same in
+      first ∙ (second ∙ (third ∙ fourth))
+
+  -- what the runner was asked for is the run of what was read
+  pub asked_same : (asked : List RunOf → Type 0) (name : List ℕ) (old mid : FolderState) → Meets (why_by why) (load_run name) old mid (CameTo (Ok l)) → WasRun asked program inputs → WasAsked asked name old.holds
+  asked_same asked name old mid m run = record {
+    loaded = l;
+    read = if_told old.holds (λ files. Follows (load_run name files) files old mid (CameTo (Ok l))) (λ files. Ok l ≡ (load_run name files).end) (λ files f. f.0) m.follows;
+    program = program;
+    lowered = for.lowered;
+    knows = subst (λ i. Knows program (whole_span program) (known_of i)) same (ready_knows program inputs are);
+    runs = subst (λ i. asked (runs_of program i)) same run;
+  }
+
+-- ---- ends
 
 -- a stop of the parts is the end of the whole
 pub stop_is_end : (o : RunOutcome ScriptEnd) → outcome_as script_end (stopped_by {X = Tally} o) ≡ o

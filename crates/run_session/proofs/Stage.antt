@@ -1,6 +1,6 @@
 -- What a span gives, and what the outputs of its program write.
-use Rattle.std.proofs.Common.{zero, suc, ◌≡◌, ℕ, ◌+◌, ◌*◌, ◌-◌, ◌<◌, ◌≤◌, Bool, true, false, cond, List, [], ◌∷◌, ◌++◌, length, map, get_or, take, refl, sym, ap, subst, ◌∙◌, Ok, Err, Result, arith}
-use Rattle.std.specs.Prelude.{◌||◌, All, Option, Some, None, slice_get, slice_range}
+use Rattle.std.proofs.Common.{zero, suc, ◌≡◌, ℕ, ◌+◌, ◌*◌, ◌-◌, ◌<◌, Bool, true, false, cond, List, [], ◌∷◌, length, map, get_or, take, refl, sym, ap, subst, ◌∙◌, Ok, Err, Result, arith}
+use Rattle.std.specs.Prelude.{◌||◌, All, Some, slice_get, slice_range}
 use Rattle.std.specs.List.{list_any}
 use Rattle.std.proofs.Math.Seq.{take-length}
 use Rattle.std.proofs.lemmas.Bool.{eq-eqb, ne_eqb}
@@ -10,7 +10,6 @@ use Rattle.outside_io.specs.Causes.{CameTo, CutOff, NoMemory, ReadFault, WriteFa
 use Rattle.outside_io.specs.inside.Parts.{Settles}
 use Rattle.map_meaning.specs.declared.known.OverAt.{OverAt}
 use Rattle.map_meaning.specs.declared.known.StepMap.{StepMap}
-use Rattle.map_meaning.specs.declared.program.Operand.TheVariants.{Initial}
 use Rattle.map_meaning.specs.declared.program.Operation.{Operation}
 use Rattle.map_meaning.specs.declared.program.OutputUse.{OutputUse}
 use Rattle.map_meaning.specs.declared.program.Program.{Program}
@@ -20,11 +19,12 @@ use Rattle.map_meaning.specs.Programs.{AreOperations, IsOperation, IsOutput, IsW
 use Rattle.map_meaning.specs.Spans.{AreInputMaps, kept_map, kept_maps, scene_of, stage_of, told_of, whole_span}
 use Rattle.map_meaning.proofs.WholeMaps.{AreDone, AreFrom, none_done, values_done}
 use Rattle.script_types.specs.Values.{Written, initial_map, written}
+use Rattle.run_session.proofs.Search.{kept_ascend}
 use Rattle.run_session.specs.declared.inputs.Inputs.{Inputs}
 use Rattle.run_session.specs.Course.{or_overflow}
 use Rattle.run_session.specs.Ends.{ScriptEnd, Overflow, why}
 use Rattle.run_session.specs.Evaluation.{known_of}
-use Rattle.run_session.specs.inside.Parts.{IsKept, has_kept, kept_of, kept_written, outputs_over, stage_result}
+use Rattle.run_session.specs.inside.Parts.{AscendFrom, IsKept, has_kept, kept_of, kept_written, outputs_over, stage_result}
 
 -- ---- lists
 
@@ -200,6 +200,14 @@ module _ (program : Program) (inputs : Inputs) where
     over_not at value =
         let told : stage_result (told_of program (whole_span program) 0 (Err at)) ≡ Ok kept = ap (λ v. stage_result (told_of program (whole_span program) 0 v)) (sym value) ∙ (ap stage_result (sym stage_told) ∙ is) in
         cc
+
+    -- the kept maps ascend
+    pub stage_ascends : AscendFrom 0 kept
+    stage_ascends = by span_values refl
+      where
+        by : (v : Result Done OverAt) → span_values ≡ v → AscendFrom 0 kept
+        by (Ok done) value = subst (AscendFrom 0) (kept_are done value) (kept_ascend 0 done.initial 0 program.initial)
+        by (Err at) value = absurd (over_not at value)
 
     -- each output writes a map that is kept
     pub stage_kept : All (IsKept places kept) program.outputs

@@ -44,14 +44,25 @@ text_run name = do
   text ← reading Missing TooLong name most_script_bytes
   settled (or_syntax (tree_of text))
 
--- the settled statements, or the end of the run at the first fault of meaning
-abbrev pub or_meaning : Result (List Line) MeaningFault → Result (List Line) ScriptEnd
-or_meaning (Ok lines) = Ok lines
-or_meaning (Err fault) = Err (ScriptIs (faults.Meaning fault))
+-- a script without faults, and its settled statements
+pub record CheckedScript : Type 0 where
+  pub script : Script
+  pub lines : List Line
 
--- the settled statements of the script of this name; something that is not built ends the run before every fault of meaning
-unfoldable pub settled_lines : List ℕ → Script → Result (List Line) ScriptEnd
-settled_lines name script = if is_unbuilt script then Err (Unbuilt name) else or_meaning (meaning script)
+-- the script with its settled statements, or the end of the run at the first fault of meaning
+abbrev pub or_meaning : Script → Result (List Line) MeaningFault → Result CheckedScript ScriptEnd
+or_meaning script (Ok lines) = Ok (record { script = script; lines = lines })
+or_meaning script (Err fault) = Err (ScriptIs (faults.Meaning fault))
+
+-- the script of this name with its settled statements; something that is not built ends the run before every fault of meaning
+unfoldable pub checked_script : List ℕ → Script → Result CheckedScript ScriptEnd
+checked_script name script = if is_unbuilt script then Err (Unbuilt name) else or_meaning script (meaning script)
+
+-- the script of this name is read, and its statements are settled
+abbrev pub checked_run : List ℕ → Run (Result CheckedScript ScriptEnd)
+checked_run name = do
+  script ← text_run name
+  settled (checked_script name script)
 
 -- ---- the inputs
 
@@ -105,6 +116,26 @@ inputs_run list number = do
   maps ← in_turn (one_more_map number area) [] list
   settled (Ok (record { frame = frame_of area; maps = maps }))
 
+-- ---- what is read before the first step
+
+-- what is known once all that a run reads first was read: a script without faults, and its inputs
+pub record Loaded : Type 0 where
+  pub script : Script
+  pub lines : List Line
+  pub inputs : Inputs
+
+-- the inputs of a script without faults are read
+abbrev pub inputs_read : CheckedScript → Run (Result Loaded ScriptEnd)
+inputs_read s = do
+  inputs ← inputs_run (inputs_of s.script) (area_number s.script)
+  settled (Ok (record { script = s.script; lines = s.lines; inputs = inputs }))
+
+-- the script of this name is read, and then its inputs
+abbrev pub load_run : List ℕ → Run (Result Loaded ScriptEnd)
+load_run name = do
+  s ← checked_run name
+  inputs_read s
+
 -- ---- the section `initial`
 
 -- too many tasks end the run
@@ -135,22 +166,16 @@ start_run many reports steps frame = do
 abbrev pub Many : Type 0
 Many = ℕ → ℕ → Option ℕ
 
--- the inputs are read, and then the section `initial` is run
-abbrev pub parts_run : Many → (Inputs → Result (List Written) OverAt) → List InputUse → ℕ → ℕ → Run (Result Tally ScriptEnd)
-parts_run many reports list number steps = do
-  inputs ← inputs_run list number
-  start_run (many inputs.frame.rows inputs.frame.cols) (reports inputs) steps inputs.frame
+-- what was read is run
+abbrev pub loaded_run : (Script → Many) → Loaded → Run (Result Tally ScriptEnd)
+loaded_run many l =
+    start_run (many l.script l.inputs.frame.rows l.inputs.frame.cols) (reports_of l.script l.lines l.inputs) l.script.steps l.inputs.frame
 
--- the settled statements of a script are run
-abbrev pub lines_run : Many → Script → List Line → Run (Result Tally ScriptEnd)
-lines_run many script lines = parts_run many (reports_of script lines) (inputs_of script) (area_number script) script.steps
-
--- the script of this name is read, and then its statements are run
+-- the script of this name and its inputs are read, and then it is run
 abbrev pub whole_run : (Script → Many) → List ℕ → Run (Result Tally ScriptEnd)
 whole_run many name = do
-  script ← text_run name
-  lines ← settled (settled_lines name script)
-  lines_run (many script) script lines
+  l ← load_run name
+  loaded_run many l
 
 -- the run of the script of this name, where a count of tasks that is too large is told by the script and the size
 abbrev pub script_run : (Script → Many) → List ℕ → Run ScriptEnd

@@ -9,6 +9,7 @@ mod ends;
 mod evaluating;
 mod files;
 mod inputs;
+mod loading;
 mod reports;
 mod script;
 mod session;

@@ -4,7 +4,7 @@ ghost use Rattle.grid_text.specs.Form.{IsSize};
 ghost use Rattle.grid_text.specs.Written.{written_grid};
 ghost use Rattle.map_meaning.specs.Spans.{kept_map};
 ghost use Rattle.run_session.specs.Course.{report_run};
-ghost use Rattle.run_session.specs.inside.Parts.{IsKept, Makes, has_kept, kept_of, kept_written};
+ghost use Rattle.run_session.specs.inside.Parts.{AscendFrom, IsKept, Makes, has_kept, kept_of, kept_written};
 
 use crate::ends::Stop;
 use crate::files::store;
@@ -16,15 +16,14 @@ use std::alloc::{AllocError, Global};
 
 // The kept map of the operation with this number.
 fn kept_map(maps: &[StepMap], number: u32) -> &StepMap
-    requires { has_kept number maps.now ≡ true }
+    requires ascend { AscendFrom 0 maps.now }
+    requires kept { has_kept number maps.now ≡ true }
     ensures { result.now.cells ≡ kept_map maps.now number }
 {
-    for map in maps {
-        if map.operation == number {
-            return map;
-        }
+    match maps.binary_search_by_key(&number, |map| map.operation) {
+        Ok(place) => &maps[place],
+        Err(_) => unreachable!(),
     }
-    unreachable!()
 }
 
 // The text that an output writes.
@@ -35,6 +34,7 @@ fn report_text(
     output: &OutputUse,
 ) -> Result<Vec<u8>, AllocError>
     requires size { IsSize frame.now.rows frame.now.cols }
+    requires ascend { AscendFrom 0 maps.now }
     requires kept { IsKept (frame.now.rows * frame.now.cols) maps.now output.now }
     ensures { IfOk result (λ text. text.items ≡ written_grid output.now.cell_kind frame.now.rows frame.now.cols frame.now.head (kept_of maps.now output.now.value)) }
 {
@@ -61,6 +61,7 @@ fn put_report<F: Folder>(
     output: &OutputUse,
 ) -> Result<(), Stop>
     requires size { IsSize frame.now.rows frame.now.cols }
+    requires ascend { AscendFrom 0 maps.now }
     requires kept { IsKept (frame.now.rows * frame.now.cols) maps.now output.now }
     ensures { Makes (report_run frame.now tt (kept_written maps.now output.now)) (F.state folder.old) (F.state folder.new) result }
 {
@@ -77,6 +78,7 @@ pub fn put_reports<F: Folder>(
     outputs: &[OutputUse],
 ) -> Result<(), Stop>
     requires size { IsSize frame.now.rows frame.now.cols }
+    requires ascend { AscendFrom 0 maps.now }
     requires kept { All (IsKept (frame.now.rows * frame.now.cols) maps.now) outputs.now }
     ensures { Makes (in_turn (report_run frame.now) tt (map (kept_written maps.now) outputs.now)) (F.state folder.old) (F.state folder.new) result }
 {

@@ -1,10 +1,10 @@
 ghost use Rattle.std.specs.Prelude.{◌≤◌, length, IfErr, IfOk};
 ghost use Rattle.text_base.specs.Limits.{most_script_bytes};
+ghost use Rattle.script_syntax.specs.WellMade.{IsWellMade};
 ghost use Rattle.script_syntax.specs.inside.Reading.{tree_of};
 ghost use Rattle.script_types.specs.Answers.{IsLowered};
-ghost use Rattle.script_types.specs.Made.{IsMade};
-ghost use Rattle.run_session.specs.Course.{or_syntax, settled_lines, text_run};
-ghost use Rattle.run_session.specs.inside.Parts.{GivesEnd, Makes, StopsAt};
+ghost use Rattle.run_session.specs.Course.{checked_run, checked_script, or_syntax, text_run};
+ghost use Rattle.run_session.specs.inside.Parts.{GivesEnd, IsProgramFor, Makes, MakesFor, StopsAt};
 
 use crate::ends::{ScriptFault, Stop};
 use crate::files::fetch;
@@ -20,7 +20,7 @@ use text_base::MOST_SCRIPT_BYTES;
 fn parse_script(alloc: Global, text: &[u8]) -> Result<Script, Stop>
     requires { length text.now ≤ most_script_bytes }
     ensures settles { GivesEnd (or_syntax (tree_of text.now)) result }
-    ensures made { IfOk result IsMade }
+    ensures made { IfOk result IsWellMade }
 {
     match read_script(alloc, text) {
         Ok(script) => Ok(script),
@@ -29,21 +29,21 @@ fn parse_script(alloc: Global, text: &[u8]) -> Result<Script, Stop>
     }
 }
 
-/// Reads a script.
-pub fn script_at<F: Folder>(alloc: Global, folder: &mut F, name: &Word) -> Result<Script, Stop>
+// Reads a script. Its text is let go.
+fn script_at<F: Folder>(alloc: Global, folder: &mut F, name: &Word) -> Result<Script, Stop>
     ensures meets { Makes (text_run name.now) (F.state folder.old) (F.state folder.new) result }
-    ensures made { IfOk result IsMade }
+    ensures made { IfOk result IsWellMade }
 {
     let text = fetch(alloc, folder, name, MOST_SCRIPT_BYTES)?;
     parse_script(alloc, &text)
 }
 
-/// The program of the script of this name.
-#[tactic(auto, unfolding(crate::specs::Course::settled_lines))]
-pub fn program_of(alloc: Global, name: &Word, script: &Script) -> Result<Program, Stop>
-    requires { IsMade script.now }
+// The program of the script of this name.
+#[tactic(auto, unfolding(crate::specs::Course::checked_script))]
+fn program_of(alloc: Global, name: &Word, script: &Script) -> Result<Program, Stop>
+    requires { IsWellMade script.now }
     ensures lowered { IfOk result (IsLowered script.now) }
-    ensures stops { IfErr result (StopsAt (settled_lines name.now script.now)) }
+    ensures stops { IfErr result (StopsAt (checked_script name.now script.now)) }
 {
     match lower(alloc, script) {
         Ok(program) => Ok(program),
@@ -54,4 +54,12 @@ pub fn program_of(alloc: Global, name: &Word, script: &Script) -> Result<Program
         },
         Err(LowerEnd::Memory) => Err(Stop::Memory),
     }
+}
+
+/// Reads a script, and gives its program. The script is let go.
+pub fn read_program<F: Folder>(alloc: Global, folder: &mut F, name: &Word) -> Result<Program, Stop>
+    ensures { MakesFor IsProgramFor (checked_run name.now) (F.state folder.old) (F.state folder.new) result }
+{
+    let script = script_at(alloc, folder, name)?;
+    program_of(alloc, name, &script)
 }

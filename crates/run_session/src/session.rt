@@ -1,20 +1,17 @@
-ghost use Rattle.std.specs.Prelude.{◌≡◌, [], ◌∷◌, List, length, Result, OnOk};
+ghost use Rattle.std.specs.Prelude.{◌≡◌, [], length, OnOk};
 ghost use Rattle.script_syntax.specs.declared.tree.Script.{Script as TheScript};
-ghost use Rattle.map_meaning.specs.declared.known.OverAt.{OverAt};
 ghost use Rattle.outside_io.specs.Met.{Meets};
 ghost use Rattle.map_meaning.specs.Programs.{IsWellFormed};
-ghost use Rattle.script_types.specs.Values.{Written};
-ghost use Rattle.run_session.specs.declared.inputs.Inputs.{Inputs as TheInputs};
 ghost use Rattle.run_session.specs.Asked.{Counts, IfDone, WasAsked};
-ghost use Rattle.run_session.specs.Course.{Many, parts_run, script_run, start_run, whole_run};
+ghost use Rattle.run_session.specs.Course.{Many, script_run, start_run, whole_run};
 ghost use Rattle.run_session.specs.Ends.{session_outcome, why};
-ghost use Rattle.run_session.specs.inside.Parts.{AreInputsOf, HasCounts, HasReports, Makes, WasProgram, WasRun, outputs_over, stop_outcome, tally_of};
+ghost use Rattle.run_session.specs.inside.Parts.{AreInputsOf, Makes, WasRun, outputs_over, stop_outcome, tally_of};
 
 use crate::ends::{SessionEnd, Stop, Tally};
 use crate::evaluating::{admitted, evaluate};
-use crate::inputs::{Inputs, read_inputs};
+use crate::inputs::Inputs;
+use crate::loading::{Ready, load};
 use crate::reports::put_reports;
-use crate::script::{program_of, script_at};
 use cell_values::Word;
 use map_meaning::{BlockRunner, Known, Program};
 use outside_io::Folder;
@@ -63,26 +60,7 @@ fn run_start<F: Folder, R: BlockRunner>(
     Ok(tally(program))
 }
 
-// Runs a program.
-fn run_program<F: Folder, R: BlockRunner>(
-    alloc: Global,
-    folder: &mut F,
-    runner: &mut R,
-    program: Program,
-) -> Result<Tally, Stop>
-    requires ready { R.ready runner.old }
-    requires program { IsWellFormed program }
-    ensures meets { (many : Many) (reports : TheInputs → Result (List Written) OverAt) → HasCounts (R.admits runner.old) program many → HasReports program reports
-        → Makes (parts_run many reports program.inputs program.area program.steps) (F.state folder.old) (F.state folder.new) result }
-    ensures ready { R.ready runner.new }
-    ensures asked { R.asked runner.old [] → OnOk result (WasProgram (R.asked runner.new) program) }
-{
-    let inputs = read_inputs(alloc, folder, &program)?;
-    let program = Arc::new(alloc, program)?;
-    run_start(alloc, folder, runner, &program, inputs)
-}
-
-// Reads the script of this name, and runs its program.
+// Reads the script of this name and its inputs, and runs it.
 fn run_named<F: Folder, R: BlockRunner>(
     alloc: Global,
     folder: &mut F,
@@ -93,11 +71,11 @@ fn run_named<F: Folder, R: BlockRunner>(
     ensures meets { (many : TheScript → Many) → Counts (R.admits runner.old) many
         → Makes (whole_run many name.now) (F.state folder.old) (F.state folder.new) result }
     ensures ready { R.ready runner.new }
-    ensures asked { R.asked runner.old [] → OnOk result (WasAsked (R.asked runner.new)) }
+    ensures asked { let holds = (F.state folder.old).holds in
+        R.asked runner.old [] → OnOk result (WasAsked (R.asked runner.new) name.now holds) }
 {
-    let script = script_at(alloc, folder, name)?;
-    let program = program_of(alloc, name, &script)?;
-    run_program(alloc, folder, runner, program)
+    let Ready { program, inputs } = load(alloc, folder, name)?;
+    run_start(alloc, folder, runner, &program, inputs)
 }
 
 // The answer for a stop.
@@ -136,7 +114,8 @@ pub fn run_script<F: Folder, R: BlockRunner>(
         → Meets why (script_run many name.now) (F.state folder.old) (F.state folder.new) (session_outcome result) }
     ensures ready { R.ready runner.new }
     // A runner that keeps a record of its runs has those of the script, where this was run to its end.
-    ensures asked { R.asked runner.old [] → IfDone result (WasAsked (R.asked runner.new)) }
+    ensures asked { let holds = (F.state folder.old).holds in
+        R.asked runner.old [] → IfDone result (WasAsked (R.asked runner.new) name.now holds) }
 {
     match run_named(alloc, folder, runner, name) {
         Ok(tally) => SessionEnd::Done {

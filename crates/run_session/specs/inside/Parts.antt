@@ -1,9 +1,8 @@
 -- What the parts of a session answer.
-use Rattle.std.specs.Prelude.{◌≡◌, ◌⊎◌, ◌*◌, ◌==◌, ◌<◌, ℕ, Bool, true, List, [], ◌∷◌, ◌++◌, length, map, slice_get, slice_range, Some, None, IfSome, Result, Ok, Err, All, if◌then◌else◌, ⊤}
+use Rattle.std.specs.Prelude.{◌≡◌, ◌⊎◌, ◌*◌, ◌==◌, ◌≤◌, ◌+◌, ℕ, Bool, true, List, [], ◌∷◌, ◌++◌, length, slice_get, Some, None, IfSome, Result, Ok, Err, ⊤}
 use Rattle.std.specs.declared.option.Option.{Option}
 use Rattle.std.specs.List.{list_any}
 use Rattle.cell_values.specs.declared.kind.Kind.{Kind}
-use Rattle.text_base.specs.Results.{◌>>=◌}
 use Rattle.outside_io.specs.State.{FolderState}
 use Rattle.outside_io.specs.Events.{Run}
 use Rattle.outside_io.specs.Causes.{ReadFault, WriteFault, NoMemory, RunOutcome, CameTo, CutOff, outcome_by, stopped_by, why_by}
@@ -11,7 +10,6 @@ use Rattle.outside_io.specs.Met.{Meets}
 use Rattle.outside_io.specs.inside.Parts.{Settles}
 use Rattle.grid_text.specs.declared.grid.Grid.{Grid}
 use Rattle.grid_text.specs.Form.{IsSize}
-use Rattle.map_meaning.specs.declared.known.Known.{Known}
 use Rattle.map_meaning.specs.declared.known.OverAt.{OverAt}
 use Rattle.map_meaning.specs.declared.known.StageEnd.{StageEnd}
 use Rattle.map_meaning.specs.declared.known.StepMap.{StepMap}
@@ -20,9 +18,9 @@ use Rattle.map_meaning.specs.declared.program.Operand.{Operand}
 use Rattle.map_meaning.specs.declared.program.Operand.TheVariants.{Unused, Literal, Input, Initial}
 use Rattle.map_meaning.specs.declared.program.OutputUse.{OutputUse}
 use Rattle.map_meaning.specs.declared.program.Program.{Program}
-use Rattle.map_meaning.specs.Evaluation.{operation_values}
 use Rattle.map_meaning.specs.Maps.{WholeMap, IsMapOf}
-use Rattle.map_meaning.specs.Spans.{AreInputMaps, Knows, RunOf, kept_map, scene_of, whole_span}
+use Rattle.map_meaning.specs.Spans.{AreInputMaps, RunOf, kept_map, scene_of}
+use Rattle.script_types.specs.Answers.{IsLowered}
 use Rattle.script_types.specs.Values.{Written, program_reports}
 use Rattle.run_session.specs.declared.ends.InputKind.{InputKind}
 use Rattle.run_session.specs.declared.ends.Stop.{Stop}
@@ -30,7 +28,9 @@ use Rattle.run_session.specs.declared.ends.Stop.TheVariants as stop
 use Rattle.run_session.specs.declared.ends.Tally.{Tally}
 use Rattle.run_session.specs.declared.inputs.Area.{Area}
 use Rattle.run_session.specs.declared.inputs.Inputs.{Inputs}
-use Rattle.run_session.specs.Course.{Many, or_overflow}
+use Rattle.run_session.specs.declared.loading.Ready.{Ready}
+use Rattle.run_session.specs.Asked.{runs_of}
+use Rattle.run_session.specs.Course.{CheckedScript, Loaded, or_overflow}
 use Rattle.run_session.specs.Ends.{ScriptEnd, why}
 use Rattle.run_session.specs.Ends.{Missing, TooLong, Script, Unbuilt, Input as InputIs, TooManyTasks, Overflow}
 use Rattle.run_session.specs.Evaluation.{known_of}
@@ -53,6 +53,11 @@ stop_outcome stop.Memory = CutOff NoMemory
 -- a call made this part of a script's run, and answers so
 abbrev pub Makes : {X : Type 0} → Run (Result X ScriptEnd) → FolderState → FolderState → Result X Stop → Type 0
 Makes run old new result = Meets (why_by why) run old new (outcome_by stop_outcome result)
+
+-- a call made this part of a script's run, and what it answers stands for the value of the part
+abbrev pub MakesFor : {X Y : Type 0} → (X → Y → Type 0) → Run (Result X ScriptEnd) → FolderState → FolderState → Result Y Stop → Type 0
+MakesFor Is run old new (Ok y) = (x : _) × Is x y × Meets (why_by why) run old new (CameTo (Ok x))
+MakesFor Is run old new (Err at) = Meets (why_by why) run old new (stopped_by (stop_outcome at))
 
 -- a call that touches no folder answers this, or that there is no memory
 abbrev pub GivesEnd : {X : Type 0} → Result X ScriptEnd → Result X Stop → Type 0
@@ -85,6 +90,19 @@ pub record AreInputsOf (list : List InputUse) (inputs : Inputs) : Type 0 where
   pub size : IsSize inputs.frame.rows inputs.frame.cols
   pub maps : AreInputMaps (inputs.frame.rows * inputs.frame.cols) list inputs.maps
 
+-- ---- what is read
+
+-- the program is that of a script without faults
+pub record IsProgramFor (s : CheckedScript) (program : Program) : Type 0 where
+  pub lowered : IsLowered s.script program
+  pub lines : lowered.lines ≡ s.lines
+
+-- the program and the inputs are those that were read
+pub record IsReady (l : Loaded) (ready : Ready) : Type 0 where
+  pub program : IsProgramFor (record { script = l.script; lines = l.lines }) ready.program.value
+  pub inputs : ready.inputs ≡ l.inputs
+  pub maps : AreInputsOf ready.program.value.inputs ready.inputs
+
 -- ---- the section `initial`
 
 -- the kept maps of a span, or its first Over
@@ -107,6 +125,11 @@ kept_of maps (Initial n) = kept_map maps n
 abbrev pub kept_written : List StepMap → OutputUse → Written
 kept_written maps output = record { file = output.file; kind = output.cell_kind; cells = kept_of maps output.value }
 
+-- the maps are of operations with numbers from n on, in ascending order
+abbrev pub AscendFrom : ℕ → List StepMap → Type 0
+AscendFrom n [] = ⊤
+AscendFrom n (m ∷ maps) = (n ≤ m.operation) × AscendFrom (m.operation + 1) maps
+
 -- the map of this operation is kept
 abbrev pub has_kept : ℕ → List StepMap → Bool
 has_kept n maps = list_any (λ m. m.operation == n) maps
@@ -122,23 +145,9 @@ pub record IsKept (places : ℕ) (maps : List StepMap) (output : OutputUse) : Ty
 abbrev pub outputs_over : Program → Inputs → Result (List Written) OverAt
 outputs_over program inputs = program_reports program (scene_of (known_of inputs) 0)
 
--- wherever the inputs are known, the program's operations report this
-abbrev pub HasReports : Program → (Inputs → Result (List Written) OverAt) → Type 0
-HasReports program reports = (inputs : Inputs) → Knows program (whole_span program) (known_of inputs) → reports inputs ≡ outputs_over program inputs
-
--- the runner finds these counts in the program
-abbrev pub HasCounts : (Program → ℕ → ℕ → Option ℕ) → Program → Many → Type 0
-HasCounts admits program many = (rows cols : ℕ) → many rows cols ≡ admits program rows cols
-
 -- the runner was asked for this program over these inputs, and for nothing else
 abbrev pub WasRun : (List RunOf → Type 0) → Program → Inputs → Type 0
-WasRun asked program inputs = asked (record { program = program; span = whole_span program; known = known_of inputs } ∷ [])
-
--- the runner was asked for this program over known values that hold what it reads, and for nothing else
-pub record WasProgram (asked : List RunOf → Type 0) (program : Program) : Type 0 where
-  pub inputs : Inputs
-  pub knows : Knows program (whole_span program) (known_of inputs)
-  pub run : WasRun asked program inputs
+WasRun asked program inputs = asked (runs_of program inputs)
 
 -- what was done: so many files put, up to this step
 abbrev pub tally_of : ℕ → ℕ → Tally

@@ -1,5 +1,5 @@
 -- The loop over outputs, by the lemmas for a part for each item.
-use Rattle.std.proofs.Common.{◌+◌, [], drop, map, ap}
+use Rattle.std.proofs.Common.{◌+◌, drop, map, ap}
 use Rattle.std.proofs.lemmas.List.{drop_all}
 use Rattle.outside_io.specs.Runs.{in_turn}
 use Rattle.outside_io.proofs.Callers.{meets_out, turn_on, turn_stop, turn_done}

@@ -1,17 +1,17 @@
 -- The ways out of the section `initial`.
-use Rattle.std.proofs.Common.{◌≡◌, [], length, map, refl, sym, ap, subst, ◌∙◌}
+use Rattle.std.proofs.Common.{◌≡◌, length, map, refl, sym, ap, ◌∙◌}
 use Rattle.std.proofs.lemmas.List.{length-map}
 use Rattle.std.specs.Prelude.{Ok, Result}
 use Rattle.run_session.specs.declared.ends.Tally.{Tally}
 use Rattle.outside_io.specs.Runs.{in_turn, settled}
-use Rattle.outside_io.specs.Causes.{CameTo, CutOff, stopped_by, why_by}
+use Rattle.outside_io.specs.Causes.{CameTo, why_by}
 use Rattle.outside_io.proofs.Callers.{meets_on, meets_out, meets_settled, meets_stop}
 use Rattle.run_session.specs.Course.{or_overflow, or_too_many, report_run, start_run}
 use Rattle.run_session.specs.Ends.{ScriptEnd, why}
 use Rattle.run_session.specs.inside.Parts.{stop_outcome}
 use Rattle.run_session.specs.inside.Parts.{kept_written, outputs_over, tally_of}
 use Rattle.run_session.proofs.Rest.{after_count, after_reports}
-use Rattle.run_session.proofs.Stage.{stage_kept, stage_reports, stage_stops}
+use Rattle.run_session.proofs.Stage.{stage_ascends, stage_kept, stage_reports, stage_stops}
 use Rattle.run_session.proofs.session.run_start.Goals as goal
 
 pub returns-in_err-admitted-clause-meets : goal.returns-in_err-admitted-clause-meets
@@ -89,3 +89,8 @@ pub put_reports-requires-clause-kept : goal.put_reports-requires-clause-kept
 put_reports-requires-clause-kept g c =
     let value = rw c.new.ensures at c.in_ok-kept.ensures.settles in
     rw (c.as_slice.ensures, c.as_slice-outputs.ensures, c.deref-2.ensures) (stage_kept c.args.program.now.value c.args.inputs c.requires.program c.requires.inputs.maps c.in_ok-kept.kept value.0)
+
+pub put_reports-requires-clause-ascend : goal.put_reports-requires-clause-ascend
+put_reports-requires-clause-ascend g c =
+    let value = rw c.new.ensures at c.in_ok-kept.ensures.settles in
+    rw (c.as_slice.ensures) (stage_ascends c.args.program.now.value c.args.inputs c.requires.program c.requires.inputs.maps c.in_ok-kept.kept value.0)

@@ -1,0 +1,28 @@
+ghost use Rattle.run_session.specs.Course.{load_run};
+ghost use Rattle.run_session.specs.inside.Parts.{IsReady, MakesFor};
+
+use crate::ends::Stop;
+use crate::inputs::{Inputs, read_inputs};
+use crate::script::read_program;
+use cell_values::Word;
+use map_meaning::Program;
+use outside_io::Folder;
+use std::alloc::Global;
+use std::sync::Arc;
+
+/// A program and its inputs, all read.
+#[derive(Drop)]
+pub struct Ready {
+    pub program: Arc<Program>,
+    pub inputs: Inputs,
+}
+
+/// Reads a script, and then its inputs.
+pub fn load<F: Folder>(alloc: Global, folder: &mut F, name: &Word) -> Result<Ready, Stop>
+    ensures { MakesFor IsReady (load_run name.now) (F.state folder.old) (F.state folder.new) result }
+{
+    let program = read_program(alloc, folder, name)?;
+    let inputs = read_inputs(alloc, folder, &program)?;
+    let program = Arc::new(alloc, program)?;
+    Ok(Ready { program, inputs })
+}
