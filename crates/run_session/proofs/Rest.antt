@@ -23,7 +23,7 @@ use Rattle.run_session.specs.declared.ends.SessionEnd.{SessionEnd}
 use Rattle.run_session.specs.declared.ends.SessionEnd.TheVariants as session
 use Rattle.run_session.specs.declared.ends.Stop.{Stop}
 use Rattle.run_session.specs.declared.ends.Tally.{Tally}
-use Rattle.run_session.specs.Asked.{Counts, IfDone, WasAsked, runs_of}
+use Rattle.run_session.specs.Asked.{CountsTasks, IfDone, WasAsked, runs_of}
 use Rattle.run_session.specs.declared.inputs.Frame.{Frame}
 use Rattle.run_session.specs.declared.inputs.Inputs.{Inputs}
 use Rattle.run_session.specs.Course.{CheckedScript, Loaded, Many, checked_run, checked_script, frame_of, load_run, loaded_run}
@@ -94,7 +94,7 @@ module _ (l : Loaded) (program : Program) (for : IsProgramFor (record { script =
       for.lowered.values.same (known_of inputs) (ready_knows program inputs are) ∙ (ap (λ lines. reports_of l.script lines inputs) for.lines ∙ ap (reports_of l.script l.lines) same)
 
   -- its program is run as it is
-  pub start_same : (admits : Program → ℕ → ℕ → Option ℕ) (many : Script → Many) → Counts admits many →
+  pub start_same : (admits : Program → ℕ → ℕ → Option ℕ) (many : Script → Many) → CountsTasks admits many →
       start_run (admits program inputs.frame.rows inputs.frame.cols) (outputs_over program inputs) program.steps inputs.frame ≡ loaded_run many l
   start_same admits many counts =
       let frame = inputs.frame in

@@ -24,7 +24,7 @@ use Rattle.run_session.specs.declared.inputs.Inputs.{Inputs}
 use Rattle.run_session.specs.Course.{or_overflow}
 use Rattle.run_session.specs.Ends.{ScriptEnd, Overflow, why}
 use Rattle.run_session.specs.Evaluation.{known_of}
-use Rattle.run_session.specs.inside.Parts.{AscendFrom, IsKept, has_kept, kept_of, kept_written, outputs_over, stage_result}
+use Rattle.run_session.specs.inside.Parts.{AscendFrom, IsKeptOutput, has_kept, kept_of, kept_written, outputs_over, stage_result}
 
 -- ---- lists
 
@@ -120,7 +120,7 @@ module _ (program : Program) (places : ℕ) (maps : List WholeMap) (formed : IsW
       let on : found.0.kept ≡ true = op.kept ∙ (ap (is_written program) same ∙ written_here) in
       subst (λ k. IsHere k (nth maps k) kept_all) same (kept_at maps 0 n program.initial found.0 found.1 on)
 
-  output_kept : (i : ℕ) (o : OutputUse) → slice_get program.outputs i ≡ Some o → IsOutput program o → IsKept places kept_all o
+  output_kept : (i : ℕ) (o : OutputUse) → slice_get program.outputs i ≡ Some o → IsOutput program o → IsKeptOutput places kept_all o
   output_kept i o is output =
       let n = output.value.0 in
       let found = at_within program.initial n output.value.2 in
@@ -137,7 +137,7 @@ module _ (program : Program) (places : ℕ) (maps : List WholeMap) (formed : IsW
   output_at : (i : ℕ) (o : OutputUse) → slice_get program.outputs i ≡ Some o → IsOutput program o
   output_at i o is = subst (IsOutput program) (get_or_from_slice_get program.outputs i o o is) (formed.outputs i o (slice_get_within program.outputs i o is))
 
-  outputs_kept : All (IsKept places kept_all) program.outputs
+  outputs_kept : All (IsKeptOutput places kept_all) program.outputs
   outputs_kept i d below = output_kept i (get_or program.outputs i d) (slice_get-get_or program.outputs i d below) (formed.outputs i d below)
 
   outputs_written : map (written maps) program.outputs ≡ map (kept_written kept_all) program.outputs
@@ -210,11 +210,11 @@ module _ (program : Program) (inputs : Inputs) where
         by (Err at) value = absurd (over_not at value)
 
     -- each output writes a map that is kept
-    pub stage_kept : All (IsKept places kept) program.outputs
+    pub stage_kept : All (IsKeptOutput places kept) program.outputs
     stage_kept = by span_values refl
       where
-        by : (v : Result Done OverAt) → span_values ≡ v → All (IsKept places kept) program.outputs
-        by (Ok done) value = subst (λ maps. All (IsKept places maps) program.outputs) (kept_are done value) (outputs_kept program places done.initial formed (all_done done value))
+        by : (v : Result Done OverAt) → span_values ≡ v → All (IsKeptOutput places kept) program.outputs
+        by (Ok done) value = subst (λ maps. All (IsKeptOutput places maps) program.outputs) (kept_are done value) (outputs_kept program places done.initial formed (all_done done value))
         by (Err at) value = absurd (over_not at value)
 
     -- what the program reports is what its outputs write of the kept maps

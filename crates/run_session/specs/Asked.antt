@@ -13,8 +13,9 @@ use Rattle.run_session.specs.Course.{Loaded, Many, load_run}
 use Rattle.run_session.specs.Evaluation.{known_of}
 
 -- the counts of a script's tasks are those that the runner finds in its program
-abbrev pub Counts : (Program → ℕ → ℕ → Option ℕ) → (Script → Many) → Type 0
-Counts admits many = (script : Script) (program : Program) → IsLowered script program → (rows cols : ℕ) → many script rows cols ≡ admits program rows cols
+abbrev pub CountsTasks : (Program → ℕ → ℕ → Option ℕ) → (Script → Many) → Type 0
+CountsTasks admits many = (script : Script) (program : Program) → IsLowered script program →
+    (rows cols : ℕ) → many script rows cols ≡ admits program rows cols
 
 -- the runs of a program over its inputs, each once and in order: that of the section `initial`
 abbrev pub runs_of : Program → Inputs → List RunOf

@@ -4,7 +4,7 @@ ghost use Rattle.grid_text.specs.Form.{IsSize};
 ghost use Rattle.grid_text.specs.Written.{written_grid};
 ghost use Rattle.map_meaning.specs.Spans.{kept_map};
 ghost use Rattle.run_session.specs.Course.{report_run};
-ghost use Rattle.run_session.specs.inside.Parts.{AscendFrom, IsKept, Makes, has_kept, kept_of, kept_written};
+ghost use Rattle.run_session.specs.inside.Parts.{AscendFrom, IsKeptOutput, Makes, has_kept, kept_of, kept_written};
 
 use crate::ends::Stop;
 use crate::files::store;
@@ -35,7 +35,7 @@ fn report_text(
 ) -> Result<Vec<u8>, AllocError>
     requires size { IsSize frame.now.rows frame.now.cols }
     requires ascend { AscendFrom 0 maps.now }
-    requires kept { IsKept (frame.now.rows * frame.now.cols) maps.now output.now }
+    requires kept { IsKeptOutput (frame.now.rows * frame.now.cols) maps.now output.now }
     ensures { IfOk result (λ text. text.items ≡ written_grid output.now.cell_kind frame.now.rows frame.now.cols frame.now.head (kept_of maps.now output.now.value)) }
 {
     let Operand::Initial(number) = output.value else {
@@ -62,7 +62,7 @@ fn put_report<F: Folder>(
 ) -> Result<(), Stop>
     requires size { IsSize frame.now.rows frame.now.cols }
     requires ascend { AscendFrom 0 maps.now }
-    requires kept { IsKept (frame.now.rows * frame.now.cols) maps.now output.now }
+    requires kept { IsKeptOutput (frame.now.rows * frame.now.cols) maps.now output.now }
     ensures { Makes (report_run frame.now tt (kept_written maps.now output.now)) (F.state folder.old) (F.state folder.new) result }
 {
     let text = report_text(alloc, frame, maps, output)?;
@@ -79,7 +79,7 @@ pub fn put_reports<F: Folder>(
 ) -> Result<(), Stop>
     requires size { IsSize frame.now.rows frame.now.cols }
     requires ascend { AscendFrom 0 maps.now }
-    requires kept { All (IsKept (frame.now.rows * frame.now.cols) maps.now) outputs.now }
+    requires kept { All (IsKeptOutput (frame.now.rows * frame.now.cols) maps.now) outputs.now }
     ensures { Makes (in_turn (report_run frame.now) tt (map (kept_written maps.now) outputs.now)) (F.state folder.old) (F.state folder.new) result }
 {
     for output in outputs {

@@ -2,7 +2,7 @@ ghost use Rattle.std.specs.Prelude.{◌≡◌, [], length, OnOk};
 ghost use Rattle.script_syntax.specs.declared.tree.Script.{Script as TheScript};
 ghost use Rattle.outside_io.specs.Met.{Meets};
 ghost use Rattle.map_meaning.specs.Programs.{IsWellFormed};
-ghost use Rattle.run_session.specs.Asked.{Counts, IfDone, WasAsked};
+ghost use Rattle.run_session.specs.Asked.{CountsTasks, IfDone, WasAsked};
 ghost use Rattle.run_session.specs.Course.{Many, script_run, start_run, whole_run};
 ghost use Rattle.run_session.specs.Ends.{session_outcome, why};
 ghost use Rattle.run_session.specs.inside.Parts.{AreInputsOf, Makes, WasRun, outputs_over, stop_outcome, tally_of};
@@ -68,7 +68,7 @@ fn run_named<F: Folder, R: BlockRunner>(
     name: &Word,
 ) -> Result<Tally, Stop>
     requires ready { R.ready runner.old }
-    ensures meets { (many : TheScript → Many) → Counts (R.admits runner.old) many
+    ensures meets { (many : TheScript → Many) → CountsTasks (R.admits runner.old) many
         → Makes (whole_run many name.now) (F.state folder.old) (F.state folder.new) result }
     ensures ready { R.ready runner.new }
     ensures asked { let holds = (F.state folder.old).holds in
@@ -110,7 +110,7 @@ pub fn run_script<F: Folder, R: BlockRunner>(
 ) -> SessionEnd
     requires ready { R.ready runner.old }
     // Which files are read and put, in which order, with which end, and why each answer comes.
-    ensures meets { (many : TheScript → Many) → Counts (R.admits runner.old) many
+    ensures meets { (many : TheScript → Many) → CountsTasks (R.admits runner.old) many
         → Meets why (script_run many name.now) (F.state folder.old) (F.state folder.new) (session_outcome result) }
     ensures ready { R.ready runner.new }
     // A runner that keeps a record of its runs has those of the script, where this was run to its end.

@@ -1,5 +1,6 @@
 -- What the parts of a session answer.
-use Rattle.std.specs.Prelude.{◌≡◌, ◌⊎◌, ◌*◌, ◌==◌, ◌≤◌, ◌+◌, ℕ, Bool, true, List, [], ◌∷◌, ◌++◌, length, slice_get, Some, None, IfSome, Result, Ok, Err, ⊤}
+use Rattle.std.specs.Prelude.{◌≡◌, ◌⊎◌, ◌*◌, ◌==◌, ◌≤◌, ◌+◌, ℕ, Bool, true, List, [], ◌∷◌, ◌++◌, length, slice_get}
+use Rattle.std.specs.Prelude.{Some, None, IfSome, Result, Ok, Err, ⊤}
 use Rattle.std.specs.declared.option.Option.{Option}
 use Rattle.std.specs.List.{list_any}
 use Rattle.cell_values.specs.declared.kind.Kind.{Kind}
@@ -55,7 +56,8 @@ abbrev pub Makes : {X : Type 0} → Run (Result X ScriptEnd) → FolderState →
 Makes run old new result = Meets (why_by why) run old new (outcome_by stop_outcome result)
 
 -- a call made this part of a script's run, and what it answers stands for the value of the part
-abbrev pub MakesFor : {X Y : Type 0} → (X → Y → Type 0) → Run (Result X ScriptEnd) → FolderState → FolderState → Result Y Stop → Type 0
+abbrev pub MakesFor : {X Y : Type 0} → (X → Y → Type 0) → Run (Result X ScriptEnd) → FolderState → FolderState → Result Y Stop →
+    Type 0
 MakesFor Is run old new (Ok y) = (x : _) × Is x y × Meets (why_by why) run old new (CameTo (Ok x))
 MakesFor Is run old new (Err at) = Meets (why_by why) run old new (stopped_by (stop_outcome at))
 
@@ -135,7 +137,7 @@ abbrev pub has_kept : ℕ → List StepMap → Bool
 has_kept n maps = list_any (λ m. m.operation == n) maps
 
 -- the output writes a map that is kept, and it has all its cells
-pub record IsKept (places : ℕ) (maps : List StepMap) (output : OutputUse) : Type 0 where
+pub record IsKeptOutput (places : ℕ) (maps : List StepMap) (output : OutputUse) : Type 0 where
   pub number : ℕ
   pub value : output.value ≡ Initial number
   pub kept : has_kept number maps ≡ true
