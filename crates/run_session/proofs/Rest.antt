@@ -1,6 +1,6 @@
 -- What is left of a run after each of its parts.
 use Rattle.std.proofs.Common.{◌≡◌, false, cond, refl, sym, ap, subst, ◌∙◌}
-use Rattle.std.specs.Prelude.{List, ℕ, [], length, Ok, Err, Result, IfOk, IfErr, IsErrAnd}
+use Rattle.std.specs.Prelude.{List, ℕ, [], ◌∷◌, length, Ok, Err, Result, IfOk, IfErr, IsErrAnd}
 use Rattle.std.specs.declared.option.Option.{Option}
 use Rattle.outside_io.specs.State.{FolderState}
 use Rattle.outside_io.specs.Events.{Run}
@@ -23,7 +23,7 @@ use Rattle.run_session.specs.declared.ends.SessionEnd.{SessionEnd}
 use Rattle.run_session.specs.declared.ends.SessionEnd.TheVariants as session
 use Rattle.run_session.specs.declared.ends.Stop.{Stop}
 use Rattle.run_session.specs.declared.ends.Tally.{Tally}
-use Rattle.run_session.specs.Asked.{CountsTasks, IfDone, WasAsked, runs_of}
+use Rattle.run_session.specs.Asked.{CountsTasks, IfDone, WasAsked}
 use Rattle.run_session.specs.declared.inputs.Frame.{Frame}
 use Rattle.run_session.specs.declared.inputs.Inputs.{Inputs}
 use Rattle.run_session.specs.Course.{CheckedScript, Loaded, Many, checked_run, checked_script, frame_of, load_run, loaded_run}
@@ -109,14 +109,22 @@ module _ (l : Loaded) (program : Program) (for : IsProgramFor (record { script =
       first ∙ (second ∙ (third ∙ fourth))
 
   -- what the runner was asked for is the run of what was read
-  pub asked_same : (asked : List RunOf → Type 0) (name : List ℕ) (old mid : FolderState) → Meets (why_by why) (load_run name) old mid (CameTo (Ok l)) → WasRun asked program inputs → WasAsked asked name old.holds
-  asked_same asked name old mid m run = record {
+  pub asked_same : (asked : List RunOf → Type 0) (block : ℕ) (name : List ℕ) (old mid : FolderState) → Meets (why_by why) (load_run name) old mid (CameTo (Ok l)) → WasRun asked program inputs → WasAsked asked block name old.holds
+  asked_same asked block name old mid m run = record {
     loaded = l;
     read = if_told old.holds (λ files. Follows (load_run name files) files old mid (CameTo (Ok l))) (λ files. Ok l ≡ (load_run name files).end) (λ files f. f.0) m.follows;
     program = program;
     lowered = for.lowered;
-    knows = subst (λ i. Knows program (whole_span program) (known_of i)) same (ready_knows program inputs are);
-    runs = subst (λ i. asked (runs_of program i)) same run;
+    runs = record { program = program; span = whole_span program; known = known_of inputs } ∷ [];
+    each = (record {
+      program_same = refl;
+      span_same = refl;
+      knows = ready_knows program inputs are;
+      rows = ap (λ (i : Inputs). i.frame.rows) same;
+      cols = ap (λ (i : Inputs). i.frame.cols) same;
+      maps = ap (λ (i : Inputs). i.maps) same;
+    }, tt);
+    was = run;
   }
 
 -- ---- ends

@@ -72,7 +72,7 @@ fn run_named<F: Folder, R: BlockRunner>(
         → Makes (whole_run many name.now) (F.state folder.old) (F.state folder.new) result }
     ensures ready { R.ready runner.new }
     ensures asked { let holds = (F.state folder.old).holds in
-        R.asked runner.old [] → OnOk result (WasAsked (R.asked runner.new) name.now holds) }
+        R.asked runner.old [] → OnOk result (WasAsked (R.asked runner.new) (R.block_of runner.old) name.now holds) }
 {
     let Ready { program, inputs } = load(alloc, folder, name)?;
     run_start(alloc, folder, runner, &program, inputs)
@@ -115,7 +115,7 @@ pub fn run_script<F: Folder, R: BlockRunner>(
     ensures ready { R.ready runner.new }
     // A runner that keeps a record of its runs has those of the script, where this was run to its end.
     ensures asked { let holds = (F.state folder.old).holds in
-        R.asked runner.old [] → IfDone result (WasAsked (R.asked runner.new) name.now holds) }
+        R.asked runner.old [] → IfDone result (WasAsked (R.asked runner.new) (R.block_of runner.old) name.now holds) }
 {
     match run_named(alloc, folder, runner, name) {
         Ok(tally) => SessionEnd::Done {

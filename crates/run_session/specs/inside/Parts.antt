@@ -20,7 +20,7 @@ use Rattle.map_meaning.specs.declared.program.Operand.TheVariants.{Unused, Liter
 use Rattle.map_meaning.specs.declared.program.OutputUse.{OutputUse}
 use Rattle.map_meaning.specs.declared.program.Program.{Program}
 use Rattle.map_meaning.specs.Maps.{WholeMap, IsMapOf}
-use Rattle.map_meaning.specs.Spans.{AreInputMaps, RunOf, kept_map, scene_of}
+use Rattle.map_meaning.specs.Spans.{AreInputMaps, RunOf, kept_map, scene_of, whole_span}
 use Rattle.script_types.specs.Answers.{IsLowered}
 use Rattle.script_types.specs.Values.{Written, program_reports}
 use Rattle.run_session.specs.declared.ends.InputKind.{InputKind}
@@ -30,7 +30,6 @@ use Rattle.run_session.specs.declared.ends.Tally.{Tally}
 use Rattle.run_session.specs.declared.inputs.Area.{Area}
 use Rattle.run_session.specs.declared.inputs.Inputs.{Inputs}
 use Rattle.run_session.specs.declared.loading.Ready.{Ready}
-use Rattle.run_session.specs.Asked.{runs_of}
 use Rattle.run_session.specs.Course.{CheckedScript, Loaded, or_overflow}
 use Rattle.run_session.specs.Ends.{ScriptEnd, why}
 use Rattle.run_session.specs.Ends.{Missing, TooLong, Script, Unbuilt, Input as InputIs, TooManyTasks, Overflow}
@@ -149,7 +148,7 @@ outputs_over program inputs = program_reports program (scene_of (known_of inputs
 
 -- the runner was asked for this program over these inputs, and for nothing else
 abbrev pub WasRun : (List RunOf → Type 0) → Program → Inputs → Type 0
-WasRun asked program inputs = asked (runs_of program inputs)
+WasRun asked program inputs = asked (record { program = program; span = whole_span program; known = known_of inputs } ∷ [])
 
 -- what was done: so many files put, up to this step
 abbrev pub tally_of : ℕ → ℕ → Tally

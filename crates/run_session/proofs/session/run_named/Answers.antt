@@ -41,7 +41,7 @@ returns-clause-asked g c none =
     let l = made.0 in
     let is = made.1 in
     let asked = g.R.BlockRunner.asked c.run_start.new.runner in
-    on_ok_weaker c.run_start.result (asked_same l ready.program.value is.program ready.inputs is.inputs is.maps asked name (state c.args.folder.now) (state c.load.new.folder) made.2) (c.run_start.ensures.asked none)
+    on_ok_weaker c.run_start.result (asked_same l ready.program.value is.program ready.inputs is.inputs is.maps asked (g.R.BlockRunner.block_of c.args.runner.now) name (state c.args.folder.now) (state c.load.new.folder) made.2) (c.run_start.ensures.asked none)
 
 pub run_start-requires-clause-inputs : goal.run_start-requires-clause-inputs
 run_start-requires-clause-inputs g c = c.in_ok-program.ensures.1.maps
