@@ -116,14 +116,17 @@ module _ (l : Loaded) (program : Program) (for : IsProgramFor (record { script =
     program = program;
     lowered = for.lowered;
     runs = record { program = program; span = whole_span program; known = known_of inputs } ∷ [];
-    each = (record {
-      program_same = refl;
-      span_same = refl;
-      knows = ready_knows program inputs are;
-      rows = ap (λ (i : Inputs). i.frame.rows) same;
-      cols = ap (λ (i : Inputs). i.frame.cols) same;
-      maps = ap (λ (i : Inputs). i.maps) same;
-    }, tt);
+    each = (
+      record {
+        program_same = refl;
+        span_same = refl;
+        knows = ready_knows program inputs are;
+        rows = ap (λ (i : Inputs). i.frame.rows) same;
+        cols = ap (λ (i : Inputs). i.frame.cols) same;
+        maps = ap (λ (i : Inputs). i.maps) same;
+      },
+      tt,
+    );
     was = run;
   }
 

@@ -13,17 +13,17 @@ use std::alloc::Global;
 pub fn fetch<F: Folder>(
     alloc: Global,
     folder: &mut F,
-    name: &Word,
+    name: &[u8],
     limit: u64,
 ) -> Result<Vec<u8>, Stop>
     ensures meets { Makes (reading Missing TooLong name.now limit)
         (F.state folder.old) (F.state folder.new) (seen_by (λ bytes. bytes.items) result) }
     ensures short { IfOk result (λ bytes. length bytes.items ≤ limit) }
 {
-    match folder.read(alloc, name.bytes(), limit) {
+    match folder.read(alloc, name, limit) {
         Ok(bytes) => Ok(bytes),
         Err(end) => {
-            let Ok(word) = name.twin(alloc) else {
+            let Ok(word) = Word::new(alloc, name) else {
                 return Err(Stop::Memory);
             };
             match end {
@@ -40,15 +40,15 @@ pub fn fetch<F: Folder>(
 pub fn store<F: Folder>(
     alloc: Global,
     folder: &mut F,
-    name: &Word,
+    name: &[u8],
     bytes: &[u8],
 ) -> Result<(), Stop>
     ensures { Makes (putting name.now bytes.now) (F.state folder.old) (F.state folder.new) result }
 {
-    let Ok(word) = name.twin(alloc) else {
+    let Ok(word) = Word::new(alloc, name) else {
         return Err(Stop::Memory);
     };
-    match folder.put(alloc, name.bytes(), bytes) {
+    match folder.put(alloc, name, bytes) {
         Ok(()) => Ok(()),
         Err(end) => {
             match end {

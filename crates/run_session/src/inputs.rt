@@ -74,7 +74,7 @@ fn grid_at<F: Folder>(alloc: Global, folder: &mut F, kind: Kind, name: &Word) ->
     ensures meets { Makes (grid_run kind name.now) (F.state folder.old) (F.state folder.new) result }
     ensures values { IfOk result (AreGridValues kind) }
 {
-    let text = fetch(alloc, folder, name, MOST_TEXT_BYTES)?;
+    let text = fetch(alloc, folder, name.bytes(), MOST_TEXT_BYTES)?;
     parse_grid(alloc, kind, name, &text)
 }
 

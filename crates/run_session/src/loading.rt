@@ -4,7 +4,6 @@ ghost use Rattle.run_session.specs.inside.Parts.{IsReady, MakesFor};
 use crate::ends::Stop;
 use crate::inputs::{Inputs, read_inputs};
 use crate::script::read_program;
-use cell_values::Word;
 use map_meaning::Program;
 use outside_io::Folder;
 use std::alloc::Global;
@@ -18,7 +17,7 @@ pub struct Ready {
 }
 
 /// Reads a script, and then its inputs.
-pub fn load<F: Folder>(alloc: Global, folder: &mut F, name: &Word) -> Result<Ready, Stop>
+pub fn load<F: Folder>(alloc: Global, folder: &mut F, name: &[u8]) -> Result<Ready, Stop>
     ensures { MakesFor IsReady (load_run name.now) (F.state folder.old) (F.state folder.new) result }
 {
     let program = read_program(alloc, folder, name)?;

@@ -66,7 +66,7 @@ fn put_report<F: Folder>(
     ensures { Makes (report_run frame.now tt (kept_written maps.now output.now)) (F.state folder.old) (F.state folder.new) result }
 {
     let text = report_text(alloc, frame, maps, output)?;
-    store(alloc, folder, &output.file, &text)
+    store(alloc, folder, output.file.bytes(), &text)
 }
 
 /// Puts what the outputs write, in their order.

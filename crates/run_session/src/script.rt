@@ -30,7 +30,7 @@ fn parse_script(alloc: Global, text: &[u8]) -> Result<Script, Stop>
 }
 
 // Reads a script. Its text is let go.
-fn script_at<F: Folder>(alloc: Global, folder: &mut F, name: &Word) -> Result<Script, Stop>
+fn script_at<F: Folder>(alloc: Global, folder: &mut F, name: &[u8]) -> Result<Script, Stop>
     ensures meets { Makes (text_run name.now) (F.state folder.old) (F.state folder.new) result }
     ensures made { IfOk result IsWellMade }
 {
@@ -40,7 +40,7 @@ fn script_at<F: Folder>(alloc: Global, folder: &mut F, name: &Word) -> Result<Sc
 
 // The program of the script of this name.
 #[tactic(auto, unfolding(crate::specs::Course::checked_script))]
-fn program_of(alloc: Global, name: &Word, script: &Script) -> Result<Program, Stop>
+fn program_of(alloc: Global, name: &[u8], script: &Script) -> Result<Program, Stop>
     requires { IsWellMade script.now }
     ensures lowered { IfOk result (IsLowered script.now) }
     ensures stops { IfErr result (StopsAt (checked_script name.now script.now)) }
@@ -48,7 +48,7 @@ fn program_of(alloc: Global, name: &Word, script: &Script) -> Result<Program, St
     match lower(alloc, script) {
         Ok(program) => Ok(program),
         Err(LowerEnd::Meaning(fault)) => Err(Stop::Script(ScriptFault::Meaning(fault))),
-        Err(LowerEnd::Unbuilt) => match name.twin(alloc) {
+        Err(LowerEnd::Unbuilt) => match Word::new(alloc, name) {
             Ok(word) => Err(Stop::Unbuilt(word)),
             Err(_) => Err(Stop::Memory),
         },
@@ -57,7 +57,7 @@ fn program_of(alloc: Global, name: &Word, script: &Script) -> Result<Program, St
 }
 
 /// Reads a script, and gives its program. The script is let go.
-pub fn read_program<F: Folder>(alloc: Global, folder: &mut F, name: &Word) -> Result<Program, Stop>
+pub fn read_program<F: Folder>(alloc: Global, folder: &mut F, name: &[u8]) -> Result<Program, Stop>
     ensures { MakesFor IsProgramFor (checked_run name.now) (F.state folder.old) (F.state folder.new) result }
 {
     let script = script_at(alloc, folder, name)?;

@@ -12,7 +12,6 @@ use crate::evaluating::{admitted, evaluate};
 use crate::inputs::Inputs;
 use crate::loading::{Ready, load};
 use crate::reports::put_reports;
-use cell_values::Word;
 use map_meaning::{BlockRunner, Known, Program};
 use outside_io::Folder;
 use sqlite_items::Items;
@@ -65,7 +64,7 @@ fn run_named<F: Folder, R: BlockRunner>(
     alloc: Global,
     folder: &mut F,
     runner: &mut R,
-    name: &Word,
+    name: &[u8],
 ) -> Result<Tally, Stop>
     requires ready { R.ready runner.old }
     ensures meets { (many : TheScript → Many) → CountsTasks (R.admits runner.old) many
@@ -104,9 +103,9 @@ fn session_end(stop: Stop) -> SessionEnd
 /// After a put that failed nothing more is put.
 pub fn run_script<F: Folder, R: BlockRunner>(
     alloc: Global,
+    name: &[u8],
     folder: &mut F,
     runner: &mut R,
-    name: &Word,
 ) -> SessionEnd
     requires ready { R.ready runner.old }
     // Which files are read and put, in which order, with which end, and why each answer comes.

@@ -13,7 +13,6 @@ returns-in-Failed-clause-meets g c =
     let state = g.F.Folder.state in
     let old = state c.args.folder.now in
     let new = state c.read.new.self in
-    subst (λ word. Meets (why_by why) (reading Missing TooLong c.args.name.now c.args.limit) old new (CutOff (ReadFault word))) (sym c.in-Ok-twin.ensures)
+    subst (λ word. Meets (why_by why) (reading Missing TooLong c.args.name.now c.args.limit) old new (CutOff (ReadFault word))) (sym c.in-Ok-new.ensures)
     (meets_read_failed why Missing TooLong c.args.name.now c.args.limit old new c.in-Err.ensures.keeps
-    (subst (ReadRefused old new c.args.name.now c.args.limit) c.in-Failed.is
-    (subst (λ n. ReadRefused old new n c.args.limit c.in-Err.end) c.bytes.ensures c.in-Err.ensures.answer)))
+    (subst (ReadRefused old new c.args.name.now c.args.limit) c.in-Failed.is c.in-Err.ensures.answer))

@@ -15,5 +15,4 @@ returns-in-Failed g c =
     let new = state c.put.new.self in
     subst (λ word. Meets (why_by why) (putting c.args.name.now c.args.bytes.now) old new (CutOff (WriteFault word))) (sym c.in-Ok.ensures)
     (meets_put_failed why c.args.name.now c.args.bytes.now old new c.in-Err.ensures.keeps
-    (subst (PutRefused old new c.args.name.now) c.in-Failed.is
-    (subst (λ n. PutRefused old new n c.in-Err.end) c.bytes.ensures c.in-Err.ensures.answer)))
+    (subst (PutRefused old new c.args.name.now) c.in-Failed.is c.in-Err.ensures.answer))
