@@ -5,10 +5,11 @@ use Rattle.outside_io.specs.State.{WroteFront, Wrote}
 use Rattle.outside_io.specs.Causes.{RunOutcome, CameTo, CutOff, ReadFault, WriteFault, NoMemory}
 use Rattle.outside_io.specs.Met.{Follows}
 use Rattle.outside_io.proofs.Callers.{if_told, meets_forgotten}
+use Rattle.run_session.specs.Ends.{RanToEnd, Missing, TooLong, Script, Unbuilt, Input, TooManyTasks, Overflow}
 use Rattle.lue_run.specs.declared.ended.Ended.{Ended}
 use Rattle.lue_run.specs.declared.ended.Ended.TheVariants as top
 use Rattle.lue_run.specs.Words.{command_of}
-use Rattle.lue_run.specs.Ends.{CourseEnd, Usage, OfScript, RanToEnd, Missing, TooLong, Unbuilt, Input, Overflow, why_of, end_answer, answer_for}
+use Rattle.lue_run.specs.Ends.{CourseEnd, Usage, OfScript, why_of, end_answer, answer_for}
 use Rattle.lue_run.specs.Lines.{line_of, status_of}
 use Rattle.lue_run.specs.Course.{course}
 use Rattle.lue_run.specs.Answers.{Call, CameOut, HasLine, IsComplete, IsUsage, IsShown, IsVerdict, IsVerdictKind, IsVerdictOver, LineIsWritten, KeepsCounts, NoFault}
@@ -33,8 +34,10 @@ module _ (call : Call) where
   shown_of (CameTo (OfScript (RanToEnd files steps))) usage m = tt
   shown_of (CameTo (OfScript (Missing name))) usage m = m.cause
   shown_of (CameTo (OfScript (TooLong name))) usage m = m.cause
+  shown_of (CameTo (OfScript (Script fault))) usage m = tt
   shown_of (CameTo (OfScript (Unbuilt name))) usage m = tt
   shown_of (CameTo (OfScript (Input name kind))) usage m = tt
+  shown_of (CameTo (OfScript (TooManyTasks count))) usage m = tt
   shown_of (CameTo (OfScript (Overflow at))) usage m = tt
   shown_of (CutOff (ReadFault name)) usage m = m
   shown_of (CutOff (WriteFault name)) usage m = m

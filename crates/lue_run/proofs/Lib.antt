@@ -1,4 +1,1 @@
 pub mod AnswerLemmas
-pub mod MapSumLemmas
-pub mod PairLemmas
-pub mod Rest

@@ -4,15 +4,20 @@ use Rattle.std.specs.declared.option.Option.{Option}
 use Rattle.outside_io.specs.State.{Files, PutPair}
 use Rattle.outside_io.specs.Events.{Run, puts_of}
 use Rattle.outside_io.specs.Runs.{settled, end_as}
+use Rattle.run_session.specs.Course.{script_run}
+use Rattle.run_session.specs.Ends.{ScriptEnd}
 use Rattle.lue_run.specs.declared.ended.Ended.{Ended}
 use Rattle.lue_run.specs.Words.{Command, Plain, command_of}
 use Rattle.lue_run.specs.Ends.{CourseEnd, Usage, OfScript, end_answer}
-use Rattle.lue_run.specs.PlainRun.{script_run}
+
+-- the run of the script of this name over whole maps, for which no script has too many tasks
+abbrev pub plain_run : List ℕ → Run ScriptEnd
+plain_run name = script_run (λ script rows cols. None) name
 
 -- what each command does; words that give none do nothing
 abbrev pub run_of : Option Command → Run CourseEnd
 run_of None = settled Usage
-run_of (Some (Plain script)) = end_as OfScript (script_run script)
+run_of (Some (Plain script)) = end_as OfScript (plain_run script)
 
 -- the course of the words over the files
 abbrev pub course : List (List ℕ) → Run CourseEnd

@@ -1,9 +1,7 @@
 pub mod Answers
 pub mod Course
 pub mod Ends
+pub mod Kinds
 pub mod Lines
-pub mod MapSum
-pub mod PairForm
-pub mod PlainRun
 pub mod Words
 pub mod inside

@@ -1,24 +1,41 @@
 -- The line and the exit status of an answer.
 use Rattle.std.specs.Prelude.{List, ℕ, [], ◌++◌, codes, decimal}
-use Rattle.grid_text.specs.declared.fault.GridKind.{GridKind}
-use Rattle.grid_text.specs.declared.fault.GridKind.TheVariants as kinds
-use Rattle.lue_run.specs.declared.ended.InputKind.{InputKind}
-use Rattle.lue_run.specs.declared.ended.InputKind.TheVariants.{Grid, Size}
+use Rattle.script_syntax.specs.declared.fault.SyntaxFault.{SyntaxFault}
+use Rattle.script_types.specs.declared.fault.MeaningFault.{MeaningFault}
+use Rattle.script_types.specs.declared.fault.Place.{Place}
+use Rattle.script_types.specs.declared.fault.Place.TheVariants.{Binding, Area, Statement}
+use Rattle.map_meaning.specs.declared.known.OverAt.{OverAt}
+use Rattle.run_session.specs.declared.ends.InputKind.{InputKind}
+use Rattle.run_session.specs.declared.ends.InputKind.TheVariants.{Grid, Size}
+use Rattle.run_session.specs.declared.ends.ScriptFault.{ScriptFault}
+use Rattle.run_session.specs.declared.ends.ScriptFault.TheVariants.{Syntax, Meaning}
 use Rattle.lue_run.specs.declared.ended.Ended.{Ended}
-use Rattle.lue_run.specs.declared.ended.Ended.TheVariants.{Done, Usage, Missing, TooLong, Unbuilt, Input, Overflow}
+use Rattle.lue_run.specs.declared.ended.Ended.TheVariants.{Done, Usage, Missing, TooLong, Script, Unbuilt, Input, TooManyTasks, Overflow}
 use Rattle.lue_run.specs.declared.ended.Ended.TheVariants.{FolderReadFault, FolderWriteFault, OutFault, Memory}
-use Rattle.lue_run.specs.declared.ended.OverAt.{OverAt}
+use Rattle.lue_run.specs.Kinds.{grid_word, syntax_word, meaning_word}
 
 -- a line of a text and a name
 abbrev pub named_line : List ℕ → List ℕ → List ℕ
 named_line text name = text ++ name ++ codes "\n"
 
--- the word for the kind of a grid's fault
-abbrev pub grid_word : GridKind → List ℕ
-grid_word kinds.Head = codes "head"
-grid_word kinds.BadNumber = codes "bad-number"
-grid_word kinds.Range = codes "range"
-grid_word kinds.Count = codes "count"
+-- where a text stops being a script, and what is wrong there
+abbrev pub syntax_words : SyntaxFault → List ℕ
+syntax_words fault = decimal fault.line ++ codes ":" ++ decimal fault.column ++ codes " " ++ syntax_word fault.kind
+
+-- the place of a fault of meaning
+abbrev pub place_words : Place → List ℕ
+place_words (Binding number) = codes "binding " ++ decimal number
+place_words Area = codes "areamap"
+place_words (Statement number) = codes "statement " ++ decimal number
+
+-- where a script has its first fault of meaning, and what is wrong there
+abbrev pub meaning_words : MeaningFault → List ℕ
+meaning_words fault = place_words fault.at ++ codes " " ++ meaning_word fault.kind
+
+-- the line of a script that has a fault
+abbrev pub script_line : ScriptFault → List ℕ
+script_line (Syntax fault) = codes "script " ++ syntax_words fault ++ codes "\n"
+script_line (Meaning fault) = codes "script " ++ meaning_words fault ++ codes "\n"
 
 -- the line of an input that is not as it is to be
 abbrev pub input_line : List ℕ → InputKind → List ℕ
@@ -31,30 +48,35 @@ abbrev pub over_line : OverAt → List ℕ
 over_line at = codes "overflow step " ++ decimal at.step ++ codes " statement " ++ decimal at.statement
     ++ codes " operation " ++ decimal at.operation ++ codes " row " ++ decimal at.row ++ codes " col " ++ decimal at.col ++ codes "\n"
 
--- the line that is written for an answer; none is written for the last two
+-- how an answer is told: its line, which is empty where none is written, and the exit status
+pub record Told : Type 0 where
+  pub line : List ℕ
+  pub status : ℕ
+
+-- an answer that is told so
+abbrev pub told : List ℕ → ℕ → Told
+told line status = record { line = line; status = status }
+
+-- the answers, each with its line and its status
+abbrev pub told_of : Ended → Told
+told_of (Done files steps) = told (codes "done files=" ++ decimal files ++ codes " steps=" ++ decimal steps ++ codes "\n") 0
+told_of Usage = told (codes "usage\n") 2
+told_of (Missing name) = told (named_line (codes "missing ") name) 4
+told_of (TooLong name) = told (named_line (codes "too long ") name) 4
+told_of (Script fault) = told (script_line fault) 3
+told_of (Unbuilt name) = told (named_line (codes "unbuilt ") name) 11
+told_of (Input name kind) = told (input_line name kind) 4
+told_of (TooManyTasks count) = told (codes "tasks " ++ decimal count ++ codes "\n") 6
+told_of (Overflow at) = told (over_line at) 5
+told_of (FolderReadFault name) = told (named_line (codes "read fault ") name) 7
+told_of (FolderWriteFault name) = told (named_line (codes "write fault ") name) 8
+told_of (OutFault instead) = told [] 9
+told_of Memory = told [] 10
+
+-- the line of an answer
 abbrev pub line_of : Ended → List ℕ
-line_of (Done files steps) = codes "done files=" ++ decimal files ++ codes " steps=" ++ decimal steps ++ codes "\n"
-line_of Usage = codes "usage\n"
-line_of (Missing name) = named_line (codes "missing ") name
-line_of (TooLong name) = named_line (codes "too long ") name
-line_of (Unbuilt name) = named_line (codes "unbuilt ") name
-line_of (Input name kind) = input_line name kind
-line_of (Overflow at) = over_line at
-line_of (FolderReadFault name) = named_line (codes "read fault ") name
-line_of (FolderWriteFault name) = named_line (codes "write fault ") name
-line_of (OutFault instead) = []
-line_of Memory = []
+line_of end = (told_of end).line
 
 -- the exit status of an answer
 abbrev pub status_of : Ended → ℕ
-status_of (Done files steps) = 0
-status_of Usage = 2
-status_of (Missing name) = 4
-status_of (TooLong name) = 4
-status_of (Unbuilt name) = 11
-status_of (Input name kind) = 4
-status_of (Overflow at) = 5
-status_of (FolderReadFault name) = 7
-status_of (FolderWriteFault name) = 8
-status_of (OutFault instead) = 9
-status_of Memory = 10
+status_of end = (told_of end).status

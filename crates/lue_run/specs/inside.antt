@@ -1,5 +1,2 @@
--- Twins that compute, and words of the contracts of calls that are parts of others.
-pub mod Parts
-pub mod Sums
+-- Words of the contracts of calls that are parts of others.
 pub mod Top
-pub mod Values

@@ -6,14 +6,14 @@
 
 mod command;
 mod ended;
-mod files;
+mod exit_status;
+mod kinds;
 mod line;
-mod map_sum;
-mod pair;
+mod number;
 mod plain;
+mod script_line;
 mod top;
 
-pub use ended::{Ended, InputKind, OverAt};
-pub use line::status;
-pub use map_sum::sums_are_those_of_cells;
+pub use ended::Ended;
+pub use exit_status::status;
 pub use top::lue_plain;

@@ -1,28 +1,14 @@
-ghost use Rattle.std.specs.Prelude.{◌≡◌, ◌++◌, IfOk, OnErr, OnOk, codes, decimal};
-ghost use Rattle.lue_run.specs.Lines.{grid_word, input_line, line_of, named_line, over_line, status_of};
+ghost use Rattle.std.specs.Prelude.{◌≡◌, ◌++◌, IfOk, codes, decimal};
+ghost use Rattle.lue_run.specs.Lines.{input_line, line_of, named_line, over_line};
 
-use crate::ended::{Ended, InputKind, OverAt};
+use crate::ended::Ended;
+use crate::kinds::grid_word;
+use crate::number::put_number;
+use crate::script_line::script_line;
 use cell_values::Word;
-use grid_text::GridKind;
-use itoa::Buffer;
+use map_meaning::OverAt;
+use run_session::InputKind;
 use std::alloc::{AllocError, Global};
-
-/// The exit status of an answer.
-pub fn status(end: &Ended) -> u8
-    ensures { result ≡ status_of end.now }
-{
-    match end {
-        Ended::Done { .. } => 0,
-        Ended::Usage => 2,
-        Ended::Missing(_) | Ended::TooLong(_) | Ended::Input { .. } => 4,
-        Ended::Overflow(_) => 5,
-        Ended::FolderReadFault(_) => 7,
-        Ended::FolderWriteFault(_) => 8,
-        Ended::OutFault { .. } => 9,
-        Ended::Memory => 10,
-        Ended::Unbuilt(_) => 11,
-    }
-}
 
 // A text and a name as a line.
 fn with_name(alloc: Global, text: &[u8], name: &Word) -> Result<Vec<u8>, AllocError>
@@ -32,16 +18,6 @@ fn with_name(alloc: Global, text: &[u8], name: &Word) -> Result<Vec<u8>, AllocEr
     line.extend_from_slice(name.bytes())?;
     line.push(b'\n')?;
     Ok(line)
-}
-
-// Appends a text and a number.
-fn put_number(line: &mut Vec<u8>, text: &[u8], number: u64) -> Result<(), AllocError>
-    ensures { OnOk result (line.new.items ≡ line.old.items ++ text.now ++ decimal number) }
-{
-    let mut digits = Buffer::new();
-    line.extend_from_slice(text)?;
-    line.extend_from_slice(digits.format(number).as_bytes())?;
-    Ok(())
 }
 
 // The line of a run that came to its end.
@@ -55,16 +31,14 @@ fn done_line(alloc: Global, files: u64, steps: u32) -> Result<Vec<u8>, AllocErro
     Ok(line)
 }
 
-// The word for the kind of a grid's fault.
-fn grid_word(kind: GridKind) -> &'static [u8]
-    ensures { result.now ≡ grid_word kind }
+// The line of a script that has too many tasks.
+fn tasks_line(alloc: Global, count: u64) -> Result<Vec<u8>, AllocError>
+    ensures { IfOk result (λ line. line.items ≡ line_of (Ended.TooManyTasks count)) }
 {
-    match kind {
-        GridKind::Head => b"head",
-        GridKind::BadNumber => b"bad-number",
-        GridKind::Range => b"range",
-        GridKind::Count => b"count",
-    }
+    let mut line = Vec::new(alloc);
+    put_number(&mut line, b"tasks ", count)?;
+    line.push(b'\n')?;
+    Ok(line)
 }
 
 // The line of an input that is not as it is to be.
@@ -111,8 +85,10 @@ pub fn line(alloc: Global, end: &Ended) -> Result<Vec<u8>, AllocError>
         Ended::Usage => Vec::from_slice(alloc, b"usage\n"),
         Ended::Missing(name) => with_name(alloc, b"missing ", name),
         Ended::TooLong(name) => with_name(alloc, b"too long ", name),
+        Ended::Script(fault) => script_line(alloc, fault),
         Ended::Unbuilt(name) => with_name(alloc, b"unbuilt ", name),
         Ended::Input { name, kind } => input_line(alloc, name, *kind),
+        Ended::TooManyTasks(count) => tasks_line(alloc, *count),
         Ended::Overflow(at) => overflow_line(alloc, at),
         Ended::FolderReadFault(name) => with_name(alloc, b"read fault ", name),
         Ended::FolderWriteFault(name) => with_name(alloc, b"write fault ", name),

@@ -1,16 +1,19 @@
 ghost use Rattle.std.specs.Prelude.{◌≡◌, ◌≤◌, None};
 ghost use Rattle.outside_io.specs.Causes.{outcome_as};
 ghost use Rattle.lue_run.specs.Answers.{HasLine, IsComplete, IsUsage, IsShown, IsVerdict, IsVerdictKind, LineIsWritten, KeepsCounts, NoFault, call_of};
-ghost use Rattle.lue_run.specs.Ends.{OfScript, answer_for, session_outcome};
+ghost use Rattle.run_session.specs.Ends.{session_outcome};
+ghost use Rattle.lue_run.specs.Ends.{OfScript, answer_for};
 ghost use Rattle.lue_run.specs.Words.{command_of};
 ghost use Rattle.lue_run.specs.inside.Top.{AnswersSo, ComesTo, Tells};
 
 use crate::command::named_script;
-use crate::ended::{Ended, SessionEnd};
-use crate::line::{line, status};
-use crate::plain::run_script;
+use crate::ended::Ended;
+use crate::exit_status::status;
+use crate::line::line;
+use crate::plain::run_plain;
 use cell_values::Word;
 use outside_io::{Folder, Sink};
+use run_session::SessionEnd;
 use std::alloc::Global;
 
 // The answer for the end of a script.
@@ -22,8 +25,10 @@ fn ended(end: SessionEnd) -> Ended
         SessionEnd::Done { files, steps } => Ended::Done { files, steps },
         SessionEnd::Missing(name) => Ended::Missing(name),
         SessionEnd::TooLong(name) => Ended::TooLong(name),
+        SessionEnd::Script(fault) => Ended::Script(fault),
         SessionEnd::Unbuilt(name) => Ended::Unbuilt(name),
         SessionEnd::Input { name, kind } => Ended::Input { name, kind },
+        SessionEnd::TooManyTasks(count) => Ended::TooManyTasks(count),
         SessionEnd::Overflow(at) => Ended::Overflow(at),
         SessionEnd::FolderReadFault(name) => Ended::FolderReadFault(name),
         SessionEnd::FolderWriteFault(name) => Ended::FolderWriteFault(name),
@@ -36,7 +41,7 @@ fn come_to<F: Folder>(alloc: Global, words: &[Word], folder: &mut F) -> Ended
     ensures { ComesTo words.now (F.state folder.old) (F.state folder.new) result }
 {
     match named_script(words) {
-        Some(name) => ended(run_script(alloc, folder, name)),
+        Some(name) => ended(run_plain(alloc, name, folder)),
         None => Ended::Usage,
     }
 }
