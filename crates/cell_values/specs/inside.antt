@@ -2,3 +2,4 @@ pub mod Parts
 pub mod Printed
 pub mod Reading
 pub mod Short
+pub mod Sums

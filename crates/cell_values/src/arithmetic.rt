@@ -1,11 +1,12 @@
 //! Arithmetic on scalars.
 
-ghost use Rattle.std.specs.Prelude.{MatchOption, Err, ◌≡◌, ◌≢◌, ◌≤◌, ◌^◌, pos, ◌-ℤ◌, ◌*ℤ◌, unsigned_abs};
+ghost use Rattle.std.specs.Prelude.{MatchOption, Err, IsTrue, ◌≡◌, ◌≢◌, ◌↔◌, ◌≤◌, ◌^◌, pos, ◌-ℤ◌, ◌*ℤ◌, unsigned_abs};
 ghost use Rattle.cell_values.specs.declared.kind.Kind.TheVariants.{Scalar};
 ghost use Rattle.cell_values.specs.Units.{million};
 ghost use Rattle.cell_values.specs.Kinds.{IsCell, cell_of_number};
 ghost use Rattle.cell_values.specs.Rounding.{cut_quotient, nearest, nearest_quotient};
 ghost use Rattle.cell_values.specs.Arithmetic.{scalar_difference, scalar_product, scalar_quotient, scalar_remainder, scalar_sum, scalar_whole_quotient};
+ghost use Rattle.cell_values.specs.inside.Sums.{IsSmall, number_or_zero, with_both};
 
 use crate::cell::{Cell, Over};
 use crate::kind::Kind;
@@ -24,9 +25,42 @@ fn scalar_cell(number: Option<i64>) -> Result<Cell, Over>
     }
 }
 
-/// The sum of two scalars. A missing operand gives a missing value; `Over` comes exactly where the sum is no
-/// scalar.
-pub fn add(a: Cell, b: Cell) -> Result<Cell, Over>
+/// Two numbers from `-SMALL` up to below `SMALL` have a sum and a difference that are scalars.
+const SMALL: i64 = 1 << 61;
+
+// Whether a number is from `-SMALL` up to below `SMALL`.
+#[inline(always)]
+fn is_small(number: i64) -> bool
+    ensures { IsTrue result ↔ IsSmall number }
+{
+    -SMALL <= number && number < SMALL
+}
+
+// The number of a cell, and 0 where it is missing.
+#[inline(always)]
+fn number_or_zero(cell: Cell) -> i64
+    ensures { result ≡ number_or_zero cell }
+{
+    match cell {
+        Cell::Mv => 0,
+        Cell::Val(number) => number,
+    }
+}
+
+// The cell of a number, unless one of two operands is missing.
+#[inline(always)]
+fn with_both(a: Cell, b: Cell, number: i64) -> Cell
+    ensures { result ≡ with_both a b number }
+{
+    match (a, b) {
+        (Cell::Mv, _) | (_, Cell::Mv) => Cell::Mv,
+        (Cell::Val(_), Cell::Val(_)) => Cell::Val(number),
+    }
+}
+
+// The sum of any two cells.
+#[inline(never)]
+fn any_sum(a: Cell, b: Cell) -> Result<Cell, Over>
     ensures { result ≡ scalar_sum a b }
 {
     match (a, b) {
@@ -35,15 +69,42 @@ pub fn add(a: Cell, b: Cell) -> Result<Cell, Over>
     }
 }
 
-/// The difference of two scalars. A missing operand gives a missing value; `Over` comes exactly where the
-/// difference is no scalar.
-pub fn sub(a: Cell, b: Cell) -> Result<Cell, Over>
+/// The sum of two scalars. A missing operand gives a missing value; `Over` comes exactly where the sum is no
+/// scalar.
+#[inline]
+pub fn add(a: Cell, b: Cell) -> Result<Cell, Over>
+    ensures { result ≡ scalar_sum a b }
+{
+    // A missing operand counts as 0 at first: so nothing jumps where cells differ, and small numbers need no other test.
+    let (x, y) = (number_or_zero(a), number_or_zero(b));
+    if is_small(x) & is_small(y) {
+        return Ok(with_both(a, b, x + y));
+    }
+    any_sum(a, b)
+}
+
+// The difference of any two cells.
+#[inline(never)]
+fn any_difference(a: Cell, b: Cell) -> Result<Cell, Over>
     ensures { result ≡ scalar_difference a b }
 {
     match (a, b) {
         (Cell::Val(a), Cell::Val(b)) => scalar_cell(a.checked_sub(b)),
         _ => Ok(Cell::Mv),
     }
+}
+
+/// The difference of two scalars. A missing operand gives a missing value; `Over` comes exactly where the
+/// difference is no scalar.
+#[inline]
+pub fn sub(a: Cell, b: Cell) -> Result<Cell, Over>
+    ensures { result ≡ scalar_difference a b }
+{
+    let (x, y) = (number_or_zero(a), number_or_zero(b));
+    if is_small(x) & is_small(y) {
+        return Ok(with_both(a, b, x - y));
+    }
+    any_difference(a, b)
 }
 
 // The product of two scalars in millionths, rounded.
