@@ -1,8 +1,8 @@
 -- The text of a number of millionths in a row of bytes.
-use Rattle.std.proofs.Common.{◌≡◌, ℕ, zero, suc, ◌+◌, ◌-◌, ◌/◌, ◌%◌, ◌<◌, ◌≤◌, Bool, true, false, cond, List, [], ◌∷◌, ◌++◌, length, take, drop, set, decimal, ◌==◌, ℤ, pos, int_lt, unsigned_abs, Result, Ok, Err, OnOk, is_ok, if◌then◌else◌, refl, sym, ap, ◌∙◌, arith}
+use Rattle.std.proofs.Common.{◌≡◌, ℕ, zero, suc, ◌+◌, ◌-◌, ◌/◌, ◌%◌, ◌<◌, ◌≤◌, Bool, true, false, cond, List, [], ◌∷◌, ◌++◌, length, take, drop, set, decimal, ◌==◌, ℤ, pos, int_lt, unsigned_abs, Result, Ok, Err, OnOk, refl, sym, ap, ◌∙◌, arith}
 use Rattle.std.proofs.lemmas.Fmt.{decimal_step, decimal_digit}
 use Rattle.std.proofs.lemmas.Bool.{eqb-true}
-use Rattle.std.proofs.lemmas.List.{drop-set, drop_all}
+use Rattle.std.proofs.lemmas.List.{drop-set}
 use Rattle.cell_values.proofs.Cuts.{take_none, take_past}
 use Rattle.cell_values.proofs.Digits.{take-append}
 use Rattle.cell_values.specs.inside.Printed.{six_digits, before_trimmed, trimmed, fraction_text, millionths_text, signed}
@@ -70,12 +70,12 @@ drop_next (suc n) (x ∷ xs) d ds h =
     ap (λ k. drop k (x ∷ xs)) e ∙ drop_next n xs d ds h
 
 -- the point stands in place of the million
-pub point_set : (buf text : List ℕ) (start part : ℕ) → part < 1000000 → length text ≡ 28 → length buf ≡ 28 → start + length (decimal (1000000 + part)) ≡ 28 → drop start buf ≡ decimal (1000000 + part) ++ drop 28 text → drop 21 (set buf 21 46) ≡ 46 ∷ six_digits part
-point_set buf text start part low long long' place written =
+pub point_set : (buf text : List ℕ) (start part : ℕ) → part < 1000000 → 28 ≤ length buf → start + length (decimal (1000000 + part)) ≡ 28 → drop start buf ≡ decimal (1000000 + part) ++ drop 28 text → drop 21 (set buf 21 46) ≡ (46 ∷ six_digits part) ++ drop 28 text
+point_set buf text start part low long place written =
     let seven = seven_digits part low in
     let at : start ≡ 21 = omega (arith, ap length seven, place) in
-    let all : drop 21 buf ≡ 49 ∷ six_digits part = ap (λ k. drop k buf) (sym at) ∙ written ∙ ap (λ t. t ++ drop 28 text) seven ∙ ap (λ t. 49 ∷ six_digits part ++ t) (drop_all 28 text (omega (arith, long))) in
-    drop-set buf 21 46 (omega (arith, long')) ∙ ap (λ t. 46 ∷ t) (drop_next 21 buf 49 (six_digits part) all)
+    let all : drop 21 buf ≡ 49 ∷ (six_digits part ++ drop 28 text) = ap (λ k. drop k buf) (sym at) ∙ written ∙ ap (λ t. t ++ drop 28 text) seven in
+    drop-set buf 21 46 (omega (arith, long)) ∙ ap (λ t. 46 ∷ t) (drop_next 21 buf 49 (six_digits part ++ drop 28 text) all)
 
 pub signed_length : (negative : Bool) (ds : List ℕ) → negative ≡ true → length (signed negative ds) ≡ length ds + 1
 signed_length true ds h = omega arith
@@ -113,6 +113,6 @@ fraction_is part some = point_kept (trimmed (six_digits part)) ∙ by_zero (part
     by_zero true h = absurd (some (eqb-true part 0 h))
     by_zero false h = refl
 
-pub appended : {T E : Type 0} → (r : Result T E) (new old s t : List ℕ) → new ≡ (if is_ok r then old ++ s else old) → s ≡ t → OnOk r (new ≡ old ++ t)
+pub appended : {T E : Type 0} → (r : Result T E) (new old s t : List ℕ) → OnOk r (new ≡ old ++ s) → s ≡ t → OnOk r (new ≡ old ++ t)
 appended (Ok x) new old s t h e = h ∙ ap (λ u. old ++ u) e
 appended (Err x) new old s t h e = tt

@@ -16,6 +16,9 @@ const MOST_BYTES: usize = 28;
 
 const POINT: usize = 21;
 
+/// Where the bytes end that stand behind each place at which a text begins, as many as the longest text has.
+const ROOM: usize = POINT + MOST_BYTES;
+
 // The digits without the zeros at their end.
 #[inline]
 fn without_zeros(digits: &[u8]) -> &[u8]
@@ -36,7 +39,7 @@ fn without_zeros(digits: &[u8]) -> &[u8]
 #[inline(always)]
 fn put_fraction(part: u64, text: &mut [u8]) -> usize
     requires part { part < million }
-    requires room { length text.old ≡ 28 }
+    requires room { length text.old ≡ 49 }
     ensures within { (21 ≤ result) × (result ≤ 28) }
     ensures written { take (result - 21) (drop 21 text.new) ≡ fraction_text part }
 {
@@ -53,7 +56,7 @@ fn put_fraction(part: u64, text: &mut [u8]) -> usize
 #[inline(always)]
 fn put_whole(negative: bool, whole: u64, text: &mut [u8]) -> usize
     requires whole { whole < 10 ^ 14 }
-    requires room { length text.old ≡ 28 }
+    requires room { length text.old ≡ 49 }
     ensures start { result + length (signed negative (decimal whole)) ≡ 21 }
     ensures written { drop result text.new ≡ signed negative (decimal whole) ++ drop 21 text.old }
 {
@@ -65,16 +68,29 @@ fn put_whole(negative: bool, whole: u64, text: &mut [u8]) -> usize
     start - 1
 }
 
+// Appends the first of these bytes. It copies them all, since a copy of a known number of bytes is no call.
+#[inline(always)]
+fn put_front(bytes: &[u8], count: usize, into: &mut Vec<u8>) -> Result<(), AllocError>
+    requires { count ≤ length bytes.now }
+    ensures ok { OnOk result (into.new.items ≡ into.old.items ++ take count bytes.now) }
+    ensures err { OnErr result (into.new.items ≡ into.old.items) }
+{
+    let len = into.len() + count;
+    into.extend_from_slice(bytes)?;
+    into.truncate(len);
+    Ok(())
+}
+
 // Appends a number of millionths.
 fn print_millionths(value: i64, into: &mut Vec<u8>) -> Result<(), AllocError>
     ensures ok { OnOk result (into.new.items ≡ into.old.items ++ millionths_text value) }
     ensures err { OnErr result (into.new.items ≡ into.old.items) }
 {
     let size = value.unsigned_abs();
-    let mut text = [0u8; MOST_BYTES];
+    let mut text = [0u8; ROOM];
     let end = put_fraction(size % MILLION, &mut text);
     let start = put_whole(value < 0, size / MILLION, &mut text);
-    into.extend_from_slice(&text[start..end])
+    put_front(&text[start..start + MOST_BYTES], end - start, into)
 }
 
 /// Appends the one text of a cell of a kind: `1e31` for a missing value, else a whole number, or for

@@ -1,4 +1,5 @@
-use Rattle.std.proofs.Common.{◌≡◌, ◌++◌, ◌/◌, ◌%◌, pos, int_lt, unsigned_abs, decimal, to_z-of_z, ap, ◌∙◌}
+use Rattle.std.proofs.Common.{◌≡◌, ◌+◌, ◌-◌, ◌++◌, ◌/◌, ◌%◌, pos, int_lt, unsigned_abs, decimal, take, drop, to_z-of_z, ap, ◌∙◌, arith}
+use Rattle.std.proofs.Math.Seq.{take-take}
 use mir.Val.{of_z, to_z}
 use mir.Syntax.{w64}
 use Rattle.cell_values.specs.inside.Printed.{fraction_text, millionths_text, signed}
@@ -15,4 +16,8 @@ returns-clause-ok c =
     let negative = int_lt z (pos 0) in
     let row = row_is (signed negative (decimal (size / 1000000))) (size % 1000000) c.put_whole-start.result c.put_fraction-end.result c.put_fraction-end.new.text c.put_whole-start.new.text a.start f.within.0 f.written a.written in
     let text = ap (λ n. signed negative (decimal (n / 1000000)) ++ fraction_text (n % 1000000)) (c.unsigned_abs-size.ensures.value ∙ ap unsigned_abs same) ∙ millionths_is negative c.args.value (ap (λ y. int_lt y (pos 0)) same) in
-    appended c.extend_from_slice.result c.extend_from_slice.new.self.items c.args.into.now.items _ (millionths_text c.args.value) c.extend_from_slice.ensures.items (row ∙ text)
+    let rest = drop c.put_whole-start.result c.put_whole-start.new.text in
+    let count = c.put_fraction-end.result - c.put_whole-start.result in
+    let most = c.put_whole-start.result + 28 - c.put_whole-start.result in
+    let front : take count (take most rest) ≡ take count rest = take-take count most rest (omega (arith, f.within)) in
+    appended c.put_front.result c.put_front.new.into.items c.args.into.now.items _ (millionths_text c.args.value) c.put_front.ensures.ok (front ∙ row ∙ text)
