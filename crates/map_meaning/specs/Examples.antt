@@ -76,6 +76,22 @@ of_truths o = cells_of o (Boolean ∷ Boolean ∷ []) (firsts ∷ seconds ∷ []
 abbrev pub truths : Bool → Bool → Bool → Bool → List Cell
 truths a b c d = truth a ∷ truth b ∷ truth c ∷ truth d ∷ Mv ∷ Mv ∷ []
 
+-- what a comparison of ordinal classes gives of 2, 2, 2 and 1, 2, 3
+abbrev pub of_classes : Op → List Cell
+of_classes o =
+    cells_of o (Ordinal ∷ Ordinal ∷ [])
+    ((Val (pos 2) ∷ Val (pos 2) ∷ Val (pos 2) ∷ []) ∷ (Val (pos 1) ∷ Val (pos 2) ∷ Val (pos 3) ∷ []) ∷ []) 3
+
+-- what an operation on two scalars gives of 7, -7 and 2, 2
+abbrev pub of_sevens : Op → List Cell
+of_sevens o =
+    cells_of o (Scalar ∷ Scalar ∷ [])
+    ((whole_scalar 7 ∷ below_zero 7000000 ∷ []) ∷ (whole_scalar 2 ∷ whole_scalar 2 ∷ []) ∷ []) 2
+
+-- what the conversion of a kind's cell gives
+abbrev pub converted_cell : Op → Kind → Cell → List Cell
+converted_cell o kind cell = cells_of o (kind ∷ []) ((cell ∷ []) ∷ []) 1
+
 -- what the operations on cells give at the places of these maps
 pub record CellExamples : Type 0 where
   -- `if(C then A else B)`, `if(C then A)`, `cover(A, B)`, `defined(A)`
@@ -100,9 +116,35 @@ pub record CellExamples : Type 0 where
   pub disjunction : of_truths op.Or ≡ truths false true true true
   pub exclusion : of_truths op.Xor ≡ truths false true true false
   pub less : cells_of op.Less (Ordinal ∷ Ordinal ∷ []) (firsts ∷ seconds ∷ []) 6 ≡ truths false true false false
+  pub negation : cells_of op.Not (Boolean ∷ []) (condition ∷ []) 3 ≡ truth false ∷ truth true ∷ Mv ∷ []
+  -- comparisons of 2, 2, 2 and 1, 2, 3
+  pub equal : of_classes op.Equal ≡ truth false ∷ truth true ∷ truth false ∷ []
+  pub unequal : of_classes op.NotEqual ≡ truth true ∷ truth false ∷ truth true ∷ []
+  pub below : of_classes op.Less ≡ truth false ∷ truth false ∷ truth true ∷ []
+  pub not_above : of_classes op.LessEqual ≡ truth false ∷ truth true ∷ truth true ∷ []
+  pub above : of_classes op.Greater ≡ truth true ∷ truth false ∷ truth false ∷ []
+  pub not_below : of_classes op.GreaterEqual ≡ truth true ∷ truth true ∷ truth false ∷ []
+  pub least : of_classes op.Min ≡ Val (pos 1) ∷ Val (pos 2) ∷ Val (pos 2) ∷ []
+  pub greatest : of_classes op.Max ≡ Val (pos 2) ∷ Val (pos 2) ∷ Val (pos 3) ∷ []
+  -- arithmetic on 7, -7 and 2, 2; the negatives and sizes of -2.5, 2.5, -0.1 and 3; a map as it is
+  pub sums : of_sevens op.Add ≡ whole_scalar 9 ∷ below_zero 5000000 ∷ []
+  pub differences : of_sevens op.Sub ≡ whole_scalar 5 ∷ below_zero 9000000 ∷ []
+  pub products : of_sevens op.Mul ≡ whole_scalar 14 ∷ below_zero 14000000 ∷ []
+  pub quotients : of_sevens op.Div ≡ Val (pos 3500000) ∷ below_zero 3500000 ∷ []
+  pub whole_quotients : of_sevens op.IntDiv ≡ whole_scalar 3 ∷ below_zero 3000000 ∷ []
+  pub remainders : of_sevens op.IntMod ≡ whole_scalar 1 ∷ below_zero 1000000 ∷ []
+  pub negatives : cells_of op.Neg (Scalar ∷ []) (near_whole ∷ []) 4
+      ≡ Val (pos 2500000) ∷ below_zero 2500000 ∷ Val (pos 100000) ∷ below_zero 3000000 ∷ []
+  pub sizes : cells_of op.Abs (Scalar ∷ []) (near_whole ∷ []) 4
+      ≡ Val (pos 2500000) ∷ Val (pos 2500000) ∷ Val (pos 100000) ∷ whole_scalar 3 ∷ []
+  pub same : cells_of op.CopyOf (Scalar ∷ []) (first_map ∷ []) 3 ≡ first_map
   -- 725.5 as a direction, -2.9 as a class, and a scalar that is no class
   pub turned : cells_of op.ToDirectional (Scalar ∷ []) ((Val (pos 725500000) ∷ []) ∷ []) 1 ≡ Val (pos 5500000) ∷ []
   pub cut : cells_of op.ToNominal (Scalar ∷ []) ((below_zero 2900000 ∷ []) ∷ []) 1 ≡ below_zero 2 ∷ []
+  pub ordered : converted_cell op.ToOrdinal Scalar (below_zero 2900000) ≡ below_zero 2 ∷ []
+  pub counted : converted_cell op.ToScalar Nominal (Val (pos 3)) ≡ whole_scalar 3 ∷ []
+  pub untrue : converted_cell op.ToBoolean Scalar (whole_scalar 0) ≡ truth false ∷ []
+  pub true_of_two : converted_cell op.ToBoolean Nominal (Val (pos 2)) ≡ truth true ∷ []
   pub too_large : over_of op.ToNominal (Scalar ∷ []) ((Val (pos 1) ∷ whole_scalar 2147483648 ∷ []) ∷ []) 2 ≡ Some 1
 
 -- ---- a program of one sum, `report C = A + A;`, over a grid of two columns
