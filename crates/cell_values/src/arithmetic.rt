@@ -1,12 +1,12 @@
 //! Arithmetic on scalars.
 
-ghost use Rattle.std.specs.Prelude.{MatchOption, Err, IsTrue, ◌≡◌, ◌≢◌, ◌↔◌, ◌≤◌, ◌^◌, pos, ◌-ℤ◌, ◌*ℤ◌, unsigned_abs};
+ghost use Rattle.std.specs.Prelude.{MatchOption, IsTrue, false, is_ok, ◌≡◌, ◌≢◌, ◌≤◌, ◌^◌, pos, ◌-ℤ◌, ◌*ℤ◌, unsigned_abs};
 ghost use Rattle.cell_values.specs.declared.kind.Kind.TheVariants.{Scalar};
 ghost use Rattle.cell_values.specs.Units.{million};
-ghost use Rattle.cell_values.specs.Kinds.{IsCell, cell_of_number};
+ghost use Rattle.cell_values.specs.Kinds.{IsCell, is_value};
 ghost use Rattle.cell_values.specs.Rounding.{cut_quotient, nearest, nearest_quotient};
 ghost use Rattle.cell_values.specs.Arithmetic.{scalar_difference, scalar_product, scalar_quotient, scalar_remainder, scalar_sum, scalar_whole_quotient};
-ghost use Rattle.cell_values.specs.inside.Sums.{IsSmall, number_or_zero, with_both};
+ghost use Rattle.cell_values.specs.inside.Sums.{number_or_zero, where_both};
 
 use crate::cell::{Cell, Over};
 use crate::kind::Kind;
@@ -14,26 +14,15 @@ use crate::range::{GREATEST_SCALAR, LEAST_SCALAR, to_cell};
 use crate::rounding::{round_div, round_quotient};
 use crate::unit::MILLION;
 
-// The cell of a number, where it has 64 bits and is a scalar.
-#[inline]
-fn scalar_cell(number: Option<i64>) -> Result<Cell, Over>
-    ensures { MatchOption number (result ≡ Err (record {})) (λ n. result ≡ cell_of_number Scalar n) }
-{
-    match number {
-        Some(n) if LEAST_SCALAR <= n && n <= GREATEST_SCALAR => Ok(Cell::Val(n)),
-        _ => Err(Over),
-    }
-}
-
 /// Two numbers from `-SMALL` up to below `SMALL` have a sum and a difference that are scalars.
 const SMALL: i64 = 1 << 61;
 
-// Whether a number is from `-SMALL` up to below `SMALL`.
+// Whether two numbers are from `-SMALL` up to below `SMALL`.
 #[inline(always)]
-fn is_small(number: i64) -> bool
-    ensures { IsTrue result ↔ IsSmall number }
+fn are_small(a: i64, b: i64) -> bool
+    ensures { IsTrue result → (unsigned_abs a ≤ 2 ^ 61) × (unsigned_abs b ≤ 2 ^ 61) }
 {
-    -SMALL <= number && number < SMALL
+    (-SMALL <= a && a < SMALL) & (-SMALL <= b && b < SMALL)
 }
 
 // The number of a cell, and 0 where it is missing.
@@ -47,25 +36,36 @@ fn number_or_zero(cell: Cell) -> i64
     }
 }
 
-// The cell of a number, unless one of two operands is missing.
+// The cell of a number, and a missing value where one of two cells is missing.
 #[inline(always)]
-fn with_both(a: Cell, b: Cell, number: i64) -> Cell
-    ensures { result ≡ with_both a b number }
+fn where_both(a: Cell, b: Cell, number: i64) -> Cell
+    ensures { result ≡ where_both a b number }
 {
-    match (a, b) {
-        (Cell::Mv, _) | (_, Cell::Mv) => Cell::Mv,
-        (Cell::Val(_), Cell::Val(_)) => Cell::Val(number),
+    if matches!(a, Cell::Val(_)) & matches!(b, Cell::Val(_)) {
+        Cell::Val(number)
+    } else {
+        Cell::Mv
     }
 }
 
-// The sum of any two cells.
+// Whether a number has 64 bits and is a scalar.
+fn is_scalar(number: Option<i64>) -> bool
+    ensures { MatchOption number (result ≡ false) (λ n. result ≡ is_value Scalar n) }
+{
+    match number {
+        Some(n) => LEAST_SCALAR <= n && n <= GREATEST_SCALAR,
+        None => false,
+    }
+}
+
+// Whether the sum of any two cells is a cell.
 #[inline(never)]
-fn any_sum(a: Cell, b: Cell) -> Result<Cell, Over>
-    ensures { result ≡ scalar_sum a b }
+fn has_sum(a: Cell, b: Cell) -> bool
+    ensures { result ≡ is_ok (scalar_sum a b) }
 {
     match (a, b) {
-        (Cell::Val(a), Cell::Val(b)) => scalar_cell(a.checked_add(b)),
-        _ => Ok(Cell::Mv),
+        (Cell::Val(a), Cell::Val(b)) => is_scalar(a.checked_add(b)),
+        _ => true,
     }
 }
 
@@ -75,22 +75,22 @@ fn any_sum(a: Cell, b: Cell) -> Result<Cell, Over>
 pub fn add(a: Cell, b: Cell) -> Result<Cell, Over>
     ensures { result ≡ scalar_sum a b }
 {
-    // A missing operand counts as 0 at first: so nothing jumps where cells differ, and small numbers need no other test.
+    // A missing operand counts as 0 here: so nothing jumps where cells differ, and small numbers need no other test.
     let (x, y) = (number_or_zero(a), number_or_zero(b));
-    if is_small(x) & is_small(y) {
-        return Ok(with_both(a, b, x + y));
+    if are_small(x, y) || has_sum(a, b) {
+        return Ok(where_both(a, b, x.wrapping_add(y)));
     }
-    any_sum(a, b)
+    Err(Over)
 }
 
-// The difference of any two cells.
+// Whether the difference of any two cells is a cell.
 #[inline(never)]
-fn any_difference(a: Cell, b: Cell) -> Result<Cell, Over>
-    ensures { result ≡ scalar_difference a b }
+fn has_difference(a: Cell, b: Cell) -> bool
+    ensures { result ≡ is_ok (scalar_difference a b) }
 {
     match (a, b) {
-        (Cell::Val(a), Cell::Val(b)) => scalar_cell(a.checked_sub(b)),
-        _ => Ok(Cell::Mv),
+        (Cell::Val(a), Cell::Val(b)) => is_scalar(a.checked_sub(b)),
+        _ => true,
     }
 }
 
@@ -101,10 +101,10 @@ pub fn sub(a: Cell, b: Cell) -> Result<Cell, Over>
     ensures { result ≡ scalar_difference a b }
 {
     let (x, y) = (number_or_zero(a), number_or_zero(b));
-    if is_small(x) & is_small(y) {
-        return Ok(with_both(a, b, x - y));
+    if are_small(x, y) || has_difference(a, b) {
+        return Ok(where_both(a, b, x.wrapping_sub(y)));
     }
-    any_difference(a, b)
+    Err(Over)
 }
 
 // The product of two scalars in millionths, rounded.
