@@ -1,5 +1,5 @@
 //! The calls of `crates/timed_calls` in stock Rust: the same loops over the same 16-byte cells, the best of as many rounds.
-//! It prints the lines that `timed_calls` prints for `cells`, `tiles` and `table`.
+//! It prints the lines that `timed_calls` prints for `cells`, `maps`, `tiles` and `table`.
 
 use std::env;
 use std::hint::black_box;
@@ -13,12 +13,11 @@ enum Cell {
 use Cell::*;
 
 const MOST: i64 = 9_000_000_000_000_000_000;
-const PLACES: usize = 100_000;
 
-/// Cells of a row of drawn numbers, of which one in eleven is missing.
-fn drawn(step: u64, shift: u32) -> Vec<Cell> {
+/// So many cells of a row of drawn numbers, of which one in eleven is missing.
+fn drawn(places: usize, step: u64, shift: u32) -> Vec<Cell> {
     let mut number = 12345u64;
-    (0..PLACES)
+    (0..places)
         .map(|_| {
             number = number.wrapping_mul(6364136223846793005).wrapping_add(step);
             if number % 11 == 3 {
@@ -97,16 +96,16 @@ fn best_of(rounds: usize, mut round: impl FnMut() -> usize) -> (u128, usize) {
     (best, sum)
 }
 
-fn time_cells() {
-    let a = drawn(1442695040888963407, 33);
-    let b = drawn(987654321, 33);
-    let truth = drawn(1442695040888963407, 63);
+fn time_cells(places: usize, rounds: usize) {
+    let a = drawn(places, 1442695040888963407, 33);
+    let b = drawn(places, 987654321, 33);
+    let truth = drawn(places, 1442695040888963407, 63);
     let say = |name: &str, (best, sum): (u128, usize)| println!("{name} {best} {sum}");
-    say("add", best_of(200, || black_box(add(black_box(&a), black_box(&b))).0.len()));
-    say("min", best_of(200, || black_box(min(black_box(&a), black_box(&b))).0.len()));
-    say("less", best_of(200, || black_box(less(black_box(&a), black_box(&b))).0.len()));
-    say("if", best_of(200, || black_box(choice(black_box(&truth), black_box(&a), black_box(&b))).0.len()));
-    say("scalar", best_of(200, || black_box(scalar(black_box(&a))).0.len()));
+    say("add", best_of(rounds, || black_box(add(black_box(&a), black_box(&b))).0.len()));
+    say("min", best_of(rounds, || black_box(min(black_box(&a), black_box(&b))).0.len()));
+    say("less", best_of(rounds, || black_box(less(black_box(&a), black_box(&b))).0.len()));
+    say("if", best_of(rounds, || black_box(choice(black_box(&truth), black_box(&a), black_box(&b))).0.len()));
+    say("scalar", best_of(rounds, || black_box(scalar(black_box(&a))).0.len()));
 }
 
 const SIDE: usize = 2048;
@@ -185,9 +184,10 @@ fn time_table() {
 
 fn main() {
     match env::args().nth(1).as_deref() {
-        Some("cells") => time_cells(),
+        Some("cells") => time_cells(100_000, 200),
+        Some("maps") => time_cells(2048 * 2048, 5),
         Some("tiles") => time_tiles(),
         Some("table") => time_table(),
-        _ => println!("tiles | cells | table"),
+        _ => println!("tiles | cells | maps | table"),
     }
 }

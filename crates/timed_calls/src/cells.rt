@@ -1,4 +1,4 @@
-//! Operations on cells over lists of 100,000.
+//! Operations on cells over lists of places.
 
 ghost use Rattle.std.specs.Prelude.{◌<◌};
 ghost use Rattle.cell_ops.specs.Work.{IsWork};
@@ -14,20 +14,14 @@ use std::test::Fail;
 use std::time::Instant;
 use tile_map::Arg;
 
-/// How many places each list has.
-const PLACES: u32 = 100_000;
-
-/// How many rounds are timed.
-const ROUNDS: u32 = 200;
-
-// Cells of a row of drawn numbers, of which one in eleven is missing: the highest bits of each, so many as are left behind
-// the shift.
-fn drawn(alloc: Global, step: u64, shift: u32) -> Result<Vec<Cell>, AllocError>
+// So many cells of a row of drawn numbers, of which one in eleven is missing: the highest bits of each, so many as are left
+// behind the shift.
+fn drawn(alloc: Global, places: u32, step: u64, shift: u32) -> Result<Vec<Cell>, AllocError>
     requires { shift < 64 }
 {
     let mut cells = Vec::new(alloc);
     let mut number = 12345u64;
-    for _ in 0..PLACES {
+    for _ in 0..places {
         number = number.wrapping_mul(6364136223846793005).wrapping_add(step);
         let cell = if number % 11 == 3 {
             Mv
@@ -65,9 +59,10 @@ fn computed(
     Ok(part.cells.as_slice().len())
 }
 
-// Times an operation, and prints its best round.
+// Times so many rounds of an operation, and prints the best one.
 fn time_work<R: Clock + Print + AllocGlobal>(
     rt: &R,
+    rounds: u32,
     name: &str,
     work: CellWork,
     a: &[Cell],
@@ -78,7 +73,7 @@ fn time_work<R: Clock + Print + AllocGlobal>(
 {
     let mut best = Best::none();
     let mut sum = 0usize;
-    for _ in 0..ROUNDS {
+    for _ in 0..rounds {
         let start = Instant::now(rt)?;
         sum = sum.wrapping_add(computed(rt.alloc(), work, a, b, c)?);
         best.note(start.elapsed(rt)?);
@@ -88,20 +83,24 @@ fn time_work<R: Clock + Print + AllocGlobal>(
     Ok(())
 }
 
-/// Times some operations on cells, and prints the best round of each in nanoseconds.
-pub fn time_cells<R: Clock + Print + AllocGlobal>(rt: &R) -> Result<(), Fail> {
-    let a = drawn(rt.alloc(), 1442695040888963407, 33)?;
-    let b = drawn(rt.alloc(), 987654321, 33)?;
-    let truth = drawn(rt.alloc(), 1442695040888963407, 63)?;
+/// Times so many rounds of some operations on cells over so many places, and prints the best round of each in nanoseconds.
+pub fn time_cells<R: Clock + Print + AllocGlobal>(
+    rt: &R,
+    places: u32,
+    rounds: u32,
+) -> Result<(), Fail> {
+    let a = drawn(rt.alloc(), places, 1442695040888963407, 33)?;
+    let b = drawn(rt.alloc(), places, 987654321, 33)?;
+    let truth = drawn(rt.alloc(), places, 1442695040888963407, 63)?;
     let (a, b, truth) = (a.as_slice(), b.as_slice(), truth.as_slice());
-    time_work(rt, "add", CellWork::Plain(Op::Add), a, b, b)?;
-    time_work(rt, "min", CellWork::Plain(Op::Min), a, b, b)?;
-    time_work(rt, "less", CellWork::Plain(Op::Less), a, b, b)?;
-    time_work(rt, "if", CellWork::Plain(Op::IfElse), truth, a, b)?;
+    time_work(rt, rounds, "add", CellWork::Plain(Op::Add), a, b, b)?;
+    time_work(rt, rounds, "min", CellWork::Plain(Op::Min), a, b, b)?;
+    time_work(rt, rounds, "less", CellWork::Plain(Op::Less), a, b, b)?;
+    time_work(rt, rounds, "if", CellWork::Plain(Op::IfElse), truth, a, b)?;
     let to_scalar = CellWork::Convert {
         from: Kind::Nominal,
         to: Kind::Scalar,
     };
-    time_work(rt, "scalar", to_scalar, a, b, b)?;
+    time_work(rt, rounds, "scalar", to_scalar, a, b, b)?;
     Ok(())
 }

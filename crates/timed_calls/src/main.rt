@@ -1,4 +1,4 @@
-//! Times calls that no script reaches yet, for `make bench`: `tiles`, `cells` or `table`. Without a word it says these.
+//! Times calls that no script reaches yet, for `make bench`: `tiles`, `cells`, `maps` or `table`. Without a word it says these.
 #![tactic(auto)]
 
 mod best;
@@ -18,13 +18,14 @@ fn run<R: Clock + Env + Print + AllocGlobal>(rt: &R) -> Result<(), Fail> {
     for arg in env::args(rt)?.skip(1) {
         match arg.as_bytes() {
             b"tiles" => time_tiles(rt)?,
-            b"cells" => time_cells(rt)?,
+            b"cells" => time_cells(rt, 100_000, 200)?,
+            b"maps" => time_cells(rt, 2048 * 2048, 5)?,
             b"table" => time_table(rt)?,
-            _ => println!(rt; "tiles | cells | table")?,
+            _ => println!(rt; "tiles | cells | maps | table")?,
         }
         return Ok(());
     }
-    println!(rt; "tiles | cells | table")?;
+    println!(rt; "tiles | cells | maps | table")?;
     Ok(())
 }
 
