@@ -12,7 +12,9 @@ use cell_values::{Cell, Cells};
 use map_meaning::{Arg, Part};
 use std::alloc::{AllocError, Global};
 
-// The outcomes of a rule at all places.
+// The outcomes of a rule at all places. It is a function of its own for each rule and shapes: in one with many loops a
+// compiler runs out of registers.
+#[inline(never)]
 fn each_place<R: CellRule, A: Shape, B: Shape, C: Shape>(
     alloc: Global,
     rule: &R,
