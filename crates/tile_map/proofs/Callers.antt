@@ -1,7 +1,8 @@
 -- What the crates above cite: rectangles and their places, tiles, cuts, pastes, operands and parts.
-use Rattle.std.proofs.Common.{◌≡◌, ℕ, ◌+◌, ◌*◌, ◌/◌, ◌%◌, ◌<◌, ◌≤◌, List, length, get_or, sym, subst, ◌∙◌, arith}
+use Rattle.std.proofs.Common.{◌≡◌, ℕ, ◌+◌, ◌*◌, ◌/◌, ◌%◌, ◌<◌, ◌≤◌, List, [], ◌∷◌, ◌++◌, length, get_or, ap, sym, subst, ◌∙◌, inl, inr, arith}
 use Rattle.std.specs.Prelude.{◌⊎◌}
-use Rattle.std.proofs.lemmas.List.{same_lists}
+use Rattle.std.proofs.lemmas.Bool.{cases_eq}
+use Rattle.std.proofs.lemmas.List.{get_or_append_left, get_or_push, same_lists}
 use Rattle.cell_values.specs.declared.cell.Cell.{Cell}
 use Rattle.tile_map.specs.declared.arg.Arg.{Arg}
 use Rattle.tile_map.specs.declared.arg.Arg.TheVariants.{Unused, One, Cells}
@@ -53,6 +54,15 @@ tile_of_place g place below = (tiles.tile_below g place below, tiles.tile_holds 
 -- and in no other
 pub tile_only : (g : Tiling) (place tile : ℕ) → HoldsPlace g.cols (rect_of g tile) place → tile ≡ tile_at g place
 tile_only g place tile holds = tiles.tile_only g place tile holds
+
+-- a list that has for each of the first tiles as many cells as the tile, with those of the next tile behind it
+pub tile_behind : (g : Tiling) (listed : List (List Cell)) (cells : List Cell) (n : ℕ) → length listed ≡ n →
+    ((tile : ℕ) → tile < n → length (get_or listed tile []) ≡ cell_count (rect_of g tile)) → length cells ≡ cell_count (rect_of g n) →
+    (tile : ℕ) → tile < n + 1 → length (get_or (listed ++ cells ∷ []) tile []) ≡ cell_count (rect_of g tile)
+tile_behind g listed cells n size whole last tile below = elim (cases_eq tile n) as (λ x. length (get_or (listed ++ cells ∷ []) tile []) ≡ cell_count (rect_of g tile)) [
+  | inl e ↦ ap length (get_or_push listed cells [] tile (size ∙ sym e)) ∙ (last ∙ ap (λ (k : ℕ). cell_count (rect_of g k)) (sym e))
+  | inr other ↦ ap length (get_or_append_left listed (cells ∷ []) [] tile (omega arith)) ∙ whole tile (omega arith)
+]
 
 -- ---- cuts and pastes
 
