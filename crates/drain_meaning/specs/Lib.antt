@@ -1,0 +1,14 @@
+pub mod Accumulation
+pub mod Drains
+pub mod Equations
+pub mod Examples
+pub mod Flows
+pub mod Masks
+pub mod Near
+pub mod Orders
+pub mod Paths
+pub mod Rules
+pub mod Sound
+pub mod Sums
+pub mod Transports
+pub mod inside

@@ -1,0 +1,28 @@
+//! What drain directions mean: where a code leads, the path of a cell, sound maps; transports along drain directions,
+//! masks, and the values of cells up and down stream; and the rules by which a transport is computed, with their laws.
+//!
+//! Rows, columns and places are counted from 0, places in row-major order.
+#![tactic(auto)]
+
+mod accu;
+mod drain;
+mod end;
+mod flow;
+mod laws;
+mod next;
+mod op;
+mod point;
+mod rule;
+mod sum;
+mod threshold;
+
+pub use accu::AccuRule;
+pub use drain::Drain;
+pub use end::{FlowEnd, drain_cell};
+pub use flow::Flow;
+pub use laws::worked_examples_come_out;
+pub use next::{Next, next_cell};
+pub use op::{FlowOp, NearOp, Orient};
+pub use point::PointRule;
+pub use rule::FlowRule;
+pub use threshold::ThresholdRule;
