@@ -1,0 +1,7 @@
+pub mod AccuLemmas
+pub mod Callers
+pub mod EndLemmas
+pub mod MapLemmas
+pub mod MaskLemmas
+pub mod PathLemmas
+pub mod SumLemmas

@@ -3,6 +3,7 @@ pub mod Drains
 pub mod Equations
 pub mod Examples
 pub mod Flows
+pub mod Laws
 pub mod Masks
 pub mod Near
 pub mod Orders

@@ -1,5 +1,5 @@
 -- Paths along drain directions.
-use Rattle.std.specs.Prelude.{◌≡◌, ◌≢◌, ◌⊎◌, ℕ, zero, suc, ◌<◌, List, [], ◌∷◌, length}
+use Rattle.std.specs.Prelude.{◌≡◌, ◌≢◌, ℕ, zero, suc, ◌<◌, List, [], ◌∷◌, length}
 use Rattle.drain_meaning.specs.declared.next.Next.{Next}
 use Rattle.drain_meaning.specs.declared.next.Next.TheVariants as next
 use Rattle.drain_meaning.specs.Drains.{DrainMap, next_at}
@@ -28,20 +28,6 @@ pub record IsFirstUnsound (m : DrainMap) (place : ℕ) : Type 0 where
   pub directed : IsDirected m place
   pub fails : HasPath m place → ⊥
   pub before : (c : ℕ) → c < place → IsDirected m c → HasPath m c
-
--- a walk from the first cell over these cells comes to the last one
-abbrev pub IsWay : DrainMap → ℕ → List ℕ → ℕ → Type 0
-IsWay m q [] at = next_at m q ≡ next.Cell at
-IsWay m q (d ∷ via) at = (next_at m q ≡ next.Cell d) × IsWay m d via at
-
--- a walk of one step or more from one cell comes to the other
-pub record Reaches (m : DrainMap) (q at : ℕ) : Type 0 where
-  pub via : List ℕ
-  pub way : IsWay m q via at
-
--- the path of the first cell holds the second one
-abbrev pub IsOnPathOf : DrainMap → ℕ → ℕ → Type 0
-IsOnPathOf m q c = (q ≡ c) ⊎ Reaches m q c
 
 -- what follows on a cell, from what is next to it
 abbrev pub behind_next : (ℕ → List ℕ) → Next → List ℕ

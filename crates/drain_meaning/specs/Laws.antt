@@ -1,0 +1,47 @@
+-- What holds of all sound drain maps.
+use Rattle.std.specs.Prelude.{◌≡◌, ℕ, ◌<◌, List, ◌∷◌, length}
+use Rattle.cell_values.specs.declared.cell.Cell.{Cell}
+use Rattle.drain_meaning.specs.declared.end.FlowEnd.{FlowEnd}
+use Rattle.drain_meaning.specs.declared.next.Next.TheVariants as next
+use Rattle.drain_meaning.specs.declared.op.FlowOp.TheVariants as op
+use Rattle.drain_meaning.specs.Accumulation.{accuflux_of, catchment_of}
+use Rattle.drain_meaning.specs.Drains.{DrainMap, IsDrainMap, next_at}
+use Rattle.drain_meaning.specs.Equations.{passing, transport_of}
+use Rattle.drain_meaning.specs.Masks.{lddmask_of}
+use Rattle.drain_meaning.specs.Paths.{IsDirected, IsFollowedBy, IsSound, path_of}
+use Rattle.drain_meaning.specs.Sound.{IsDrain}
+use Rattle.drain_meaning.specs.Transports.{AreEnds, Transport, end_of}
+
+-- the cell that another one drains into is a cell of the map
+abbrev pub StayInTheMap : Type 0
+StayInTheMap = (m : DrainMap) → IsDrainMap m → (c d : ℕ) → next_at m c ≡ next.Cell d → d < length m.codes
+
+-- the path of a cell, as a list, is the cell and those that follow on it down to a pit
+abbrev pub ListTheirCells : Type 0
+ListTheirCells = (m : DrainMap) (c : ℕ) (behind : List ℕ) → IsFollowedBy m c behind → path_of m c ≡ c ∷ behind
+
+-- on a sound map the ends of a transport meet its equation
+abbrev pub MeetTheirEquation : Type 0
+MeetTheirEquation = (t : Transport) (m : DrainMap) (a b : ℕ → Cell) → IsSound m → AreEnds t m a b (end_of t m a b)
+
+-- no other ends do
+abbrev pub AreTheOnlyEnds : Type 0
+AreTheOnlyEnds =
+    (t : Transport) (m : DrainMap) (a b : ℕ → Cell) (ends : ℕ → FlowEnd) → IsSound m → AreEnds t m a b ends →
+    (c : ℕ) → IsDirected m c → end_of t m a b c ≡ ends c
+
+-- `accuflux` is the material of all cells whose path holds the cell
+abbrev pub SumOverPaths : Type 0
+SumOverPaths =
+    (m : DrainMap) (a b : ℕ → Cell) → IsSound m → (c : ℕ) → IsDirected m c →
+    end_of (transport_of op.Accuflux) m a b c ≡ passing (accuflux_of m a c)
+
+-- `catchment` is the point farthest down the path
+abbrev pub ChooseOnPaths : Type 0
+ChooseOnPaths =
+    (m : DrainMap) (a b : ℕ → Cell) → IsSound m → (c : ℕ) → IsDirected m c →
+    end_of (transport_of op.Catchment) m a b c ≡ passing (catchment_of m a c)
+
+-- the part of a sound map that a mask keeps is a sound map
+abbrev pub StaySound : Type 0
+StaySound = (m : DrainMap) (mask : ℕ → Cell) → IsDrain m → IsDrain (lddmask_of m mask)
