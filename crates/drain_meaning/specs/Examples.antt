@@ -106,7 +106,8 @@ pub record TransportExamples : Type 0 where
   pub by_paths : map (accuflux_of winding (λ q. Val (pos 1))) (range_with_len 0 8)
       ≡ map flow_of_number (1 ∷ 2 ∷ 4 ∷ 1 ∷ 8 ∷ 7 ∷ 6 ∷ 1 ∷ [])
   -- a missing material makes all cells down the path missing
-  pub missing : (carried op.Accuflux Scalar eastward 4 (Val (pos 1) ∷ Mv ∷ Val (pos 1) ∷ Val (pos 1) ∷ []) []).cells ≡ Val (pos 1) ∷ Mv ∷ Mv ∷ Mv ∷ []
+  pub missing : (carried op.Accuflux Scalar eastward 4 (Val (pos 1) ∷ Mv ∷ Val (pos 1) ∷ Val (pos 1) ∷ []) []).cells
+      ≡ Val (pos 1) ∷ Mv ∷ Mv ∷ Mv ∷ []
   -- the sum is judged at each cell: the second is out of range, and the third is not
   pub over : carried op.Accuflux Scalar short_eastward 3
       (Val most ∷ Val most ∷ Val (neg_ℤ most) ∷ []) []

@@ -1,5 +1,6 @@
 -- How far a walk along drain directions has come. Words of private contracts.
-use Rattle.std.specs.Prelude.{◌≡◌, ◌≢◌, ℕ, ◌<◌, List, [], ◌∷◌, length, slice_index, slice_index_or, ◌⊎◌, true, false, Bool, ⊤, Ok, Err, Result}
+use Rattle.std.specs.Prelude.{◌≡◌, ◌≢◌, ℕ, ◌<◌, ◌⊎◌, ⊤, Bool, true, false, Result, Ok, Err}
+use Rattle.std.specs.Prelude.{List, [], ◌∷◌, length, slice_index, slice_index_or}
 use Rattle.std.specs.List.{Contains, count_by}
 use Rattle.drain_meaning.specs.declared.next.Next.TheVariants as next
 use Rattle.drain_meaning.specs.Drains.{DrainMap, next_at}
@@ -36,7 +37,8 @@ IsTrail drains (q ∷ ps) at = IsWay drains q ps at
 pub record Ordered (drains : DrainMap) (marks : List Mark) (order : List ℕ) : Type 0 where
   pub listed : (i : ℕ) → i < length order → mark_at marks (slice_index order i) ≡ Done
   pub once : (i j : ℕ) → i < j → j < length order → slice_index order i ≢ slice_index order j
-  pub after : (i d : ℕ) → i < length order → next_at drains (slice_index order i) ≡ next.Cell d → (j : ℕ) × (j < i) × (slice_index order j ≡ d)
+  pub after : (i d : ℕ) → i < length order → next_at drains (slice_index order i) ≡ next.Cell d →
+      (j : ℕ) × (j < i) × (slice_index order j ≡ d)
   pub found : (q : ℕ) → mark_at marks q ≡ Done → (j : ℕ) × (j < length order) × (slice_index order j ≡ q)
 
 -- Each cell that is done has a path and stands in the order, and the cells under way are those of the trail, which comes to this cell.

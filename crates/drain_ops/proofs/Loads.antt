@@ -1,0 +1,85 @@
+-- How many cells have passed their flow on to a cell, directly or not.
+use Rattle.std.proofs.Common.{◌≡◌, ◌≢◌, ◌⊎◌, inl, inr, ℕ, ◌+◌, ◌-◌, ◌<◌, ◌≤◌, List, [], ◌∷◌, ◌++◌, length, map, refl, sym, ap, subst, ◌∙◌, arith, suc, zero, get_or, get_or-set_same, get_or-set_other, Bool, true, false, cond, drop, length-drop, length-append}
+use Rattle.std.specs.Prelude.{◌==◌, if◌then◌else◌, Option, Some, None, Ok, Err}
+use Rattle.std.specs.List.{Contains, IsDistinct, AllByRecursion, filter, range_with_len}
+use Rattle.std.proofs.Math.Dec.{eqb}
+use Rattle.std.proofs.Math.ListN.{set, length-set}
+use Rattle.std.proofs.Math.Seq.{drop-cons}
+use Rattle.std.proofs.lemmas.Bool.{cases_eq, cases_lt, eq-eqb, eqb-true}
+use Rattle.std.proofs.lemmas.Bool.Decides.{eqb_tells}
+use Rattle.std.proofs.lemmas.List.{get_or-drop, get_or_default, get_or_past, get_or_read}
+use Rattle.std.proofs.lemmas.List.FromFn.{get_or-range_with_len, length-range_with_len}
+use Rattle.std.proofs.lemmas.Map.Steps.{length-le_from_distinct_below}
+use Rattle.std.proofs.lemmas.Map.Views.{Contains-from_any}
+use Rattle.text_base.specs.Limits.{most_cells}
+use Rattle.cell_values.specs.declared.cell.Cell.{Cell}
+use Rattle.cell_values.specs.declared.cell.Cell.TheVariants as cell
+use Rattle.cell_values.specs.declared.kind.Kind.TheVariants.{Scalar}
+use Rattle.cell_values.specs.Kinds.{IsCell}
+use Rattle.tile_map.specs.Cuts.{cell_at}
+use Rattle.drain_meaning.specs.declared.end.FlowEnd.{FlowEnd}
+use Rattle.drain_meaning.specs.declared.flow.Flow.{Flow}
+use Rattle.drain_meaning.specs.declared.next.Next.{Next}
+use Rattle.drain_meaning.specs.declared.next.Next.TheVariants as next
+use Rattle.drain_meaning.specs.declared.op.Orient.{Orient}
+use Rattle.drain_meaning.specs.declared.op.Orient.TheVariants.{Down, Up}
+use Rattle.drain_meaning.specs.Drains.{DrainMap, next_at}
+use Rattle.drain_meaning.specs.Flows.{FlowFits}
+use Rattle.drain_meaning.specs.Orders.{IsDrainOrder}
+use Rattle.drain_meaning.specs.Paths.{IsDirected}
+use Rattle.drain_meaning.specs.Rules.{Accumulator, RuleLaws, joined_all}
+use Rattle.drain_meaning.specs.Transports.{AreEnds, Transport, drains_into, feeders, tributaries}
+use Rattle.drain_meaning.proofs.Callers.{contains_cases, contains_first, contains_later, directed_within, drains_tells, map_alike}
+use Rattle.drain_ops.proofs.Gathered.{IsApart}
+
+-- how many of the cells that were passed, the first one last, have passed their flow on to d
+abbrev pub loads : DrainMap → List ℕ → ℕ → ℕ
+loads drains [] d = 0
+loads drains (c ∷ done) d = loads drains done d + (if drains_into d (next_at drains c) then loads drains done c + 1 else 0)
+
+pub drains_true : (m : Next) (c : ℕ) → m ≡ next.Cell c → drains_into c m ≡ true
+drains_true m c e = subst (λ (y : Next). drains_into c y ≡ true) (sym e) (eq-eqb c c refl)
+
+pub loads_same : (drains : DrainMap) (done : List ℕ) (c d : ℕ) → next_at drains c ≡ next.Cell d → loads drains (c ∷ done) d ≡ loads drains done d + (loads drains done c + 1)
+loads_same drains done c d e = rw (drains_true (next_at drains c) d e)
+
+pub loads_other : (drains : DrainMap) (done : List ℕ) (c d : ℕ) → drains_into d (next_at drains c) ≡ false → loads drains (c ∷ done) d ≡ loads drains done d
+loads_other drains done c d e = rw e (omega arith)
+
+-- the loads of several cells
+abbrev pub load_sum : DrainMap → List ℕ → List ℕ → ℕ
+load_sum drains done [] = 0
+load_sum drains done (u ∷ us) = loads drains done u + load_sum drains done us
+
+sum_other : (drains : DrainMap) (done : List ℕ) (c : ℕ) (us : List ℕ) → ((u : ℕ) → Contains us u → drains_into u (next_at drains c) ≡ false) → load_sum drains (c ∷ done) us ≡ load_sum drains done us
+sum_other drains done c [] e = refl
+sum_other drains done c (u ∷ us) e =
+    let one = loads_other drains done c u (e u (contains_first u us)) in
+    let rest = sum_other drains done c us (λ v h. e v (contains_later u us v h)) in
+    omega (arith, one, rest)
+
+sum_one : (drains : DrainMap) (done : List ℕ) (c : ℕ) (us : List ℕ) → IsApart us → load_sum drains (c ∷ done) us ≤ load_sum drains done us + (loads drains done c + 1)
+sum_one drains done c [] apart = omega arith
+sum_one drains done c (u ∷ us) apart = elim (drains_tells (next_at drains c) u) as (λ _. load_sum drains (c ∷ done) (u ∷ us) ≤ load_sum drains done (u ∷ us) + (loads drains done c + 1)) [
+  | inl b ↦
+      let one = loads_same drains done c u b in
+      let rest = sum_other drains done c us (λ v h. elim (drains_tells (next_at drains c) v) as (λ _. drains_into v (next_at drains c) ≡ false) [
+        | inl k ↦ let same : u ≡ v = cc (b, k) in absurd (apart.0 (subst (λ (y : ℕ). Contains us y) (sym same) h))
+        | inr k ↦ k
+      ]) in
+      omega (arith, one, rest)
+  | inr b ↦
+      let one = loads_other drains done c u b in
+      let rest = sum_one drains done c us apart.1 in
+      omega (arith, one, rest)
+]
+
+-- Cells that have not passed their flow on have together no more than those that have.
+pub few_loads : (drains : DrainMap) (done us : List ℕ) → IsApart done → IsApart us → ((u : ℕ) → Contains us u → Contains done u → ⊥) → load_sum drains done us ≤ length done
+few_loads drains [] [] one two out = omega arith
+few_loads drains [] (u ∷ us) one two out = let rest = few_loads drains [] us one two.1 (λ v h. out v (contains_later u us v h)) in omega (arith, rest)
+few_loads drains (c ∷ done) us one two out =
+    let step = sum_one drains done c us two in
+    let rest = few_loads drains done (c ∷ us) one.1 ((λ h. out c h (contains_first c done)), two)
+    (λ v h k. elim (contains_cases c us v h) as (λ _. ⊥) [ inl b ↦ one.0 (subst (λ (y : ℕ). Contains done y) b k) | inr b ↦ out v b (contains_later c done v k) ]) in
+    omega (arith, step, rest)

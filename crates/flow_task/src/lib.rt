@@ -1,0 +1,11 @@
+//! Transports by kits: which transports a runner knows, and how it computes them.
+//!
+//! A kit is a value without contents that names the rule of each transport that it knows. Runners take a kit as a type
+//! parameter, so a kit that knows more transports changes nothing in them.
+#![tactic(auto)]
+
+mod base;
+mod kit;
+
+pub use base::{BaseKit, BaseWork};
+pub use kit::FlowKit;
