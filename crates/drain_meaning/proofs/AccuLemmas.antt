@@ -11,10 +11,11 @@ use Rattle.drain_meaning.specs.declared.flow.Flow.{Flow}
 use Rattle.drain_meaning.specs.declared.next.Next.{Next}
 use Rattle.drain_meaning.specs.declared.next.Next.TheVariants as next
 use Rattle.drain_meaning.specs.declared.op.FlowOp.TheVariants as op
-use Rattle.drain_meaning.specs.Accumulation.{accuflux_of, catchment_of, holds_place, last_point, upstream_area}
+use Rattle.drain_meaning.specs.Accumulation.{accuflux_of, catchment_of, holds_place, is_pit, last_point, upstream_area}
 use Rattle.drain_meaning.specs.Drains.{DrainMap, next_at}
 use Rattle.drain_meaning.specs.Equations.{equation_of, farthest, passing, transport_of}
 use Rattle.drain_meaning.specs.Flows.{material, nothing, together, total_flow}
+use Rattle.drain_meaning.specs.Masks.{leads_on}
 use Rattle.drain_meaning.specs.Paths.{HasPath, IsDirected, IsFollowedBy, IsSound, behind_next, first_of_path, path_of}
 use Rattle.drain_meaning.specs.Transports.{AreEnds, drains_into, end_of, feeders, outlet, tributaries}
 use Rattle.drain_meaning.specs.inside.SumLaws.{together_regroup, together_swap, together_unit}
@@ -56,6 +57,13 @@ holds_contains c (p ∷ places) e = elim (eqb_tells p c) as (λ _. Contains (p �
 followed_directed : (m : DrainMap) (q : ℕ) (behind : List ℕ) → IsFollowedBy m q behind → IsDirected m q
 followed_directed m q [] f h = cc (f, h)
 followed_directed m q (d ∷ behind) f h = cc (f.0, h)
+
+-- a cell with a direction leads on
+leads_of : (m : DrainMap) (q : ℕ) (n : Next) → next_at m q ≡ n → IsDirected m q → leads_on n ≡ true
+leads_of m q next.Pit e d = refl
+leads_of m q (next.Cell x) e d = refl
+leads_of m q next.Outside e d = refl
+leads_of m q next.Missing e d = absurd (d e)
 
 -- a test of nothing
 if_so-nothing : (o : Bool) → if_so o nothing ≡ nothing
@@ -109,15 +117,15 @@ one_place q x from (suc count) low high = elim (eqb_tells q from) as (λ _. tota
 abbrev pub all_places : DrainMap → List ℕ
 all_places m = range_with_len 0 (length m.codes)
 
--- what passes from a cell to c adds, where it is this one cell
-from_one : (m : DrainMap) (c q : ℕ) (x : Flow) → q < length m.codes → total_flow (map (λ u. if_so (drains_into c (next_at m u)) (if_so (q == u) x)) (all_places m)) ≡ if_so (drains_into c (next_at m q)) x
-from_one m c q x low =
-    let pointwise : (u : ℕ) → if_so (drains_into c (next_at m u)) (if_so (q == u) x) ≡ if_so (q == u) (if_so (drains_into c (next_at m q)) x) = λ u. elim (eqb_tells q u) as (λ _. if_so (drains_into c (next_at m u)) (if_so (q == u) x) ≡ if_so (q == u) (if_so (drains_into c (next_at m q)) x)) [
-      | inl same ↦ rw same.0 (ap (λ (y : ℕ). if_so (drains_into c (next_at m y)) x) (sym same.1))
-      | inr other ↦ rw other.0 (if_so-nothing (drains_into c (next_at m u)))
+-- what one place of the map adds to a sum over those that pass a test
+from_one : (m : DrainMap) (test : ℕ → Bool) (q : ℕ) (x : Flow) → q < length m.codes → total_flow (map (λ u. if_so (test u) (if_so (q == u) x)) (all_places m)) ≡ if_so (test q) x
+from_one m test q x low =
+    let pointwise : (u : ℕ) → if_so (test u) (if_so (q == u) x) ≡ if_so (q == u) (if_so (test q) x) = λ u. elim (eqb_tells q u) as (λ _. if_so (test u) (if_so (q == u) x) ≡ if_so (q == u) (if_so (test q) x)) [
+      | inl same ↦ rw same.0 (ap (λ (y : ℕ). if_so (test y) x) (sym same.1))
+      | inr other ↦ rw other.0 (if_so-nothing (test u))
     ] in
-    ap total_flow (map_alike (λ u. if_so (drains_into c (next_at m u)) (if_so (q == u) x)) (λ u. if_so (q == u) (if_so (drains_into c (next_at m q)) x)) (all_places m) (λ u h. pointwise u))
-    ∙ one_place q (if_so (drains_into c (next_at m q)) x) 0 (length m.codes) (omega arith) (omega arith)
+    ap total_flow (map_alike (λ u. if_so (test u) (if_so (q == u) x)) (λ u. if_so (q == u) (if_so (test q) x)) (all_places m) (λ u h. pointwise u))
+    ∙ one_place q (if_so (test q) x) 0 (length m.codes) (omega arith) (omega arith)
 
 path_missing : (m : DrainMap) (q most : ℕ) → next_at m q ≡ next.Missing → q < most → first_of_path m most q ≡ q ∷ []
 path_missing m q zero e low = absurd (omega arith)
@@ -133,30 +141,30 @@ alone : (m : DrainMap) (c : ℕ) (x : Flow) (q : ℕ) → next_at m q ≡ next.M
     total_flow (map (λ u. if_so (drains_into c (next_at m u)) (if_so (holds_place u (q ∷ [])) x)) (all_places m)) ≡ nothing
 alone m c x q e low =
     ap total_flow (map_alike (λ u. if_so (drains_into c (next_at m u)) (if_so (holds_place u (q ∷ [])) x)) (λ u. if_so (drains_into c (next_at m u)) (if_so (q == u) x)) (all_places m) (λ u h. ap (λ (y : Flow). if_so (drains_into c (next_at m u)) y) (if_so-or_false (q == u) x)))
-    ∙ (from_one m c q x low ∙ ap (λ (y : Next). if_so (drains_into c y) x) e)
+    ∙ (from_one m (λ u. drains_into c (next_at m u)) q x low ∙ ap (λ (y : Next). if_so (drains_into c y) x) e)
 
--- one cell more in front of a path: what its own direction passes on, and what the cells behind it do
-in_front : (m : DrainMap) (c : ℕ) (x : Flow) (q : ℕ) (behind : List ℕ) → IsFollowedBy m q behind →
-    total_flow (map (λ u. if_so (drains_into c (next_at m u)) (if_so (holds_place u (q ∷ behind)) x)) (all_places m))
-    ≡ together (if_so (drains_into c (next_at m q)) x) (total_flow (map (λ u. if_so (drains_into c (next_at m u)) (if_so (holds_place u behind) x)) (all_places m)))
-in_front m c x q behind f =
+-- a sum over the cells of a path that pass a test: the first cell, and those behind it
+in_front : (m : DrainMap) (test : ℕ → Bool) (x : Flow) (q : ℕ) (behind : List ℕ) → IsFollowedBy m q behind →
+    total_flow (map (λ u. if_so (test u) (if_so (holds_place u (q ∷ behind)) x)) (all_places m))
+    ≡ together (if_so (test q) x) (total_flow (map (λ u. if_so (test u) (if_so (holds_place u behind) x)) (all_places m)))
+in_front m test x q behind f =
     let low = directed_within m q (followed_directed m q behind f) in
-    let each : (u : ℕ) → if_so (drains_into c (next_at m u)) (if_so (holds_place u (q ∷ behind)) x) ≡ together (if_so (drains_into c (next_at m u)) (if_so (q == u) x)) (if_so (drains_into c (next_at m u)) (if_so (holds_place u behind) x)) = λ u.
-    ap (λ (y : Flow). if_so (drains_into c (next_at m u)) y) (if_so-either (q == u) (holds_place u behind) x (λ e h. not_follower m q behind f (subst (λ (y : ℕ). Contains behind y) (sym (eqb-true q u e)) (holds_contains u behind h))))
-    ∙ if_so-together (drains_into c (next_at m u)) (if_so (q == u) x) (if_so (holds_place u behind) x) in
-    ap total_flow (map_alike (λ u. if_so (drains_into c (next_at m u)) (if_so (holds_place u (q ∷ behind)) x)) (λ u. together (if_so (drains_into c (next_at m u)) (if_so (q == u) x)) (if_so (drains_into c (next_at m u)) (if_so (holds_place u behind) x))) (all_places m) (λ u h. each u))
-    ∙ (total-together (λ u. if_so (drains_into c (next_at m u)) (if_so (q == u) x)) (λ u. if_so (drains_into c (next_at m u)) (if_so (holds_place u behind) x)) (all_places m)
-    ∙ ap (λ (y : Flow). together y (total_flow (map (λ u. if_so (drains_into c (next_at m u)) (if_so (holds_place u behind) x)) (all_places m)))) (from_one m c q x low))
+    let each : (u : ℕ) → if_so (test u) (if_so (holds_place u (q ∷ behind)) x) ≡ together (if_so (test u) (if_so (q == u) x)) (if_so (test u) (if_so (holds_place u behind) x)) = λ u.
+    ap (λ (y : Flow). if_so (test u) y) (if_so-either (q == u) (holds_place u behind) x (λ e h. not_follower m q behind f (subst (λ (y : ℕ). Contains behind y) (sym (eqb-true q u e)) (holds_contains u behind h))))
+    ∙ if_so-together (test u) (if_so (q == u) x) (if_so (holds_place u behind) x) in
+    ap total_flow (map_alike (λ u. if_so (test u) (if_so (holds_place u (q ∷ behind)) x)) (λ u. together (if_so (test u) (if_so (q == u) x)) (if_so (test u) (if_so (holds_place u behind) x))) (all_places m) (λ u h. each u))
+    ∙ (total-together (λ u. if_so (test u) (if_so (q == u) x)) (λ u. if_so (test u) (if_so (holds_place u behind) x)) (all_places m)
+    ∙ ap (λ (y : Flow). together y (total_flow (map (λ u. if_so (test u) (if_so (holds_place u behind) x)) (all_places m)))) (from_one m test q x low))
 
 -- What comes to c from the cells of a path: x where c follows on the first of them.
 from_path : (m : DrainMap) (c : ℕ) (x : Flow) (q : ℕ) (behind : List ℕ) → IsFollowedBy m q behind →
     total_flow (map (λ u. if_so (drains_into c (next_at m u)) (if_so (holds_place u (q ∷ behind)) x)) (all_places m)) ≡ if_so (holds_place c behind) x
 from_path m c x q [] f =
-    in_front m c x q [] f
+    in_front m (λ u. drains_into c (next_at m u)) x q [] f
     ∙ (ap (λ (y : Next). together (if_so (drains_into c y) x) (total_flow (map (λ u. if_so (drains_into c (next_at m u)) nothing) (all_places m)))) f
     ∙ ap (λ (y : Flow). together nothing y) (ap total_flow (map_alike (λ u. if_so (drains_into c (next_at m u)) nothing) (λ u. nothing) (all_places m) (λ u h. if_so-nothing (drains_into c (next_at m u)))) ∙ total-nothing (all_places m)))
 from_path m c x q (d ∷ behind) f =
-    in_front m c x q (d ∷ behind) f
+    in_front m (λ u. drains_into c (next_at m u)) x q (d ∷ behind) f
     ∙ (ap (λ (y : Next). together (if_so (drains_into c y) x) (total_flow (map (λ u. if_so (drains_into c (next_at m u)) (if_so (holds_place u (d ∷ behind)) x)) (all_places m)))) f.0
     ∙ (ap (λ (y : Flow). together (if_so (d == c) x) y) (from_path m c x d behind f.1)
     ∙ sym (if_so-either (d == c) (holds_place c behind) x (λ e h. not_follower m d behind f.1 (subst (λ (y : ℕ). Contains behind y) (sym (eqb-true d c e)) (holds_contains c behind h))))))
@@ -195,6 +203,50 @@ accuflux_step m a c sound low =
     sums c ∙ (split ∙ (apart
     ∙ (ap (λ (y : Flow). together y (total_flow (map (λ q. total_flow (map (λ u. if_so (drains_into c (next_at m u)) (held u q)) (all_places m))) (all_places m)))) own
     ∙ (ap (λ (y : Flow). together (mat c) y) (sym passed) ∙ together_swap (mat c) (total_flow (map (accuflux_of m a) (tributaries m c)))))))
+
+-- ---- masses
+
+nothing_held : (m : DrainMap) (test : ℕ → Bool) (x : Flow) → total_flow (map (λ u. if_so (test u) (if_so (holds_place u []) x)) (all_places m)) ≡ nothing
+nothing_held m test x = ap total_flow (map_alike (λ u. if_so (test u) nothing) (λ u. nothing) (all_places m) (λ u h. if_so-nothing (test u))) ∙ total-nothing (all_places m)
+
+-- a path has one pit
+at_pit : (m : DrainMap) (x : Flow) (q : ℕ) (behind : List ℕ) → IsFollowedBy m q behind →
+    total_flow (map (λ u. if_so (is_pit (next_at m u)) (if_so (holds_place u (q ∷ behind)) x)) (all_places m)) ≡ x
+at_pit m x q [] f =
+    in_front m (λ u. is_pit (next_at m u)) x q [] f
+    ∙ (ap (λ (y : Next). together (if_so (is_pit y) x) (total_flow (map (λ u. if_so (is_pit (next_at m u)) nothing) (all_places m)))) f
+    ∙ (ap (λ (y : Flow). together x y) (nothing_held m (λ u. is_pit (next_at m u)) x) ∙ together_unit x))
+at_pit m x q (d ∷ behind) f =
+    in_front m (λ u. is_pit (next_at m u)) x q (d ∷ behind) f
+    ∙ (ap (λ (y : Next). together (if_so (is_pit y) x) (total_flow (map (λ u. if_so (is_pit (next_at m u)) (if_so (holds_place u (d ∷ behind)) x)) (all_places m)))) f.0
+    ∙ (ap (λ (y : Flow). together nothing y) (at_pit m x d behind f.1) ∙ (together_swap nothing x ∙ together_unit x)))
+
+-- the material of a cell with a direction comes to one pit, that of another cell to none
+one_pit : (m : DrainMap) (x : Flow) (q : ℕ) → IsSound m → q < length m.codes →
+    total_flow (map (λ u. if_so (is_pit (next_at m u)) (if_so (holds_place u (path_of m q)) x)) (all_places m)) ≡ if_so (leads_on (next_at m q)) x
+one_pit m x q sound low = elim (cases_directed m q) as (λ _. total_flow (map (λ u. if_so (is_pit (next_at m u)) (if_so (holds_place u (path_of m q)) x)) (all_places m)) ≡ if_so (leads_on (next_at m q)) x) [
+  | inl directed ↦
+      let p = sound q directed in
+      subst (λ (y : List ℕ). total_flow (map (λ u. if_so (is_pit (next_at m u)) (if_so (holds_place u y) x)) (all_places m)) ≡ if_so (leads_on (next_at m q)) x) (sym (path_of-is m q p.behind p.followed))
+      (at_pit m x q p.behind p.followed ∙ sym (ap (λ (o : Bool). if_so o x) (leads_of m q (next_at m q) refl directed)))
+  | inr missing ↦
+      subst (λ (y : List ℕ). total_flow (map (λ u. if_so (is_pit (next_at m u)) (if_so (holds_place u y) x)) (all_places m)) ≡ if_so (leads_on (next_at m q)) x) (sym (path_of-missing m q missing low))
+      (ap total_flow (map_alike (λ u. if_so (is_pit (next_at m u)) (if_so (holds_place u (q ∷ [])) x)) (λ u. if_so (is_pit (next_at m u)) (if_so (q == u) x)) (all_places m) (λ u h. ap (λ (y : Flow). if_so (is_pit (next_at m u)) y) (if_so-or_false (q == u) x)))
+      ∙ (from_one m (λ u. is_pit (next_at m u)) q x low ∙ (ap (λ (y : Next). if_so (is_pit y) x) missing ∙ sym (ap (λ (y : Next). if_so (leads_on y) x) missing))))
+]
+
+-- what comes to the pits is the material of all cells with a direction
+pub mass_kept : (m : DrainMap) (a : ℕ → Cell) → IsSound m →
+    total_flow (map (accuflux_of m a) (filter (λ p. is_pit (next_at m p)) (all_places m))) ≡ total_flow (map (λ q. material (a q)) (filter (λ q. leads_on (next_at m q)) (all_places m)))
+mass_kept m a sound =
+    let mat : (ℕ → Flow) = λ q. material (a q) in
+    let held : (ℕ → ℕ → Flow) = λ d q. if_so (holds_place d (path_of m q)) (mat q) in
+    total-filter (λ p. is_pit (next_at m p)) (accuflux_of m a) (all_places m)
+    ∙ (ap total_flow (map_alike (λ u. if_so (is_pit (next_at m u)) (accuflux_of m a u)) (λ u. total_flow (map (λ q. if_so (is_pit (next_at m u)) (held u q)) (all_places m))) (all_places m) (λ u h.
+    ap (λ (y : Flow). if_so (is_pit (next_at m u)) y) (total-filter (λ q. holds_place u (path_of m q)) mat (all_places m)) ∙ if_so-total (is_pit (next_at m u)) (held u) (all_places m)))
+    ∙ (total-swap (λ u q. if_so (is_pit (next_at m u)) (held u q)) (all_places m) (all_places m)
+    ∙ (ap total_flow (map_alike (λ q. total_flow (map (λ u. if_so (is_pit (next_at m u)) (held u q)) (all_places m))) (λ q. if_so (leads_on (next_at m q)) (mat q)) (all_places m) (λ q h. one_pit m (mat q) q sound (place_below m q h)))
+    ∙ sym (total-filter (λ q. leads_on (next_at m q)) mat (all_places m)))))
 
 -- accuflux is the material of all cells whose path holds the cell
 pub accuflux_by_paths : (m : DrainMap) (a b : ℕ → Cell) → IsSound m → (c : ℕ) → IsDirected m c → end_of (transport_of op.Accuflux) m a b c ≡ passing (accuflux_of m a c)

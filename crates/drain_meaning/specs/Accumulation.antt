@@ -1,8 +1,10 @@
 -- What the values of transports are, in words of paths.
-use Rattle.std.specs.Prelude.{◌≡◌, ℕ, List, [], ◌∷◌, map, length, Bool, ◌==◌}
+use Rattle.std.specs.Prelude.{◌≡◌, ℕ, List, [], ◌∷◌, map, length, Bool, true, false, ◌==◌}
 use Rattle.std.specs.List.{filter, range_with_len, list_any}
 use Rattle.cell_values.specs.declared.cell.Cell.{Cell}
 use Rattle.drain_meaning.specs.declared.flow.Flow.{Flow}
+use Rattle.drain_meaning.specs.declared.next.Next.{Next}
+use Rattle.drain_meaning.specs.declared.next.Next.TheVariants as next
 use Rattle.drain_meaning.specs.Drains.{DrainMap}
 use Rattle.drain_meaning.specs.Equations.{farthest}
 use Rattle.drain_meaning.specs.Flows.{material, nothing, total_flow}
@@ -28,3 +30,10 @@ last_point (p ∷ points) = farthest (last_point points) (material p)
 -- `catchment`: the point farthest down the path
 abbrev pub catchment_of : DrainMap → (ℕ → Cell) → ℕ → Flow
 catchment_of m points c = last_point (map points (path_of m c))
+
+-- a cell with this direction is a pit
+abbrev pub is_pit : Next → Bool
+is_pit next.Pit = true
+is_pit (next.Cell d) = false
+is_pit next.Outside = false
+is_pit next.Missing = false

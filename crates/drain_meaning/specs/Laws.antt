@@ -1,13 +1,15 @@
 -- What holds of all sound drain maps.
-use Rattle.std.specs.Prelude.{◌≡◌, ℕ, ◌<◌, List, ◌∷◌, length}
+use Rattle.std.specs.Prelude.{◌≡◌, ℕ, ◌<◌, List, ◌∷◌, length, map}
+use Rattle.std.specs.List.{filter, range_with_len}
 use Rattle.cell_values.specs.declared.cell.Cell.{Cell}
 use Rattle.drain_meaning.specs.declared.end.FlowEnd.{FlowEnd}
 use Rattle.drain_meaning.specs.declared.next.Next.TheVariants as next
 use Rattle.drain_meaning.specs.declared.op.FlowOp.TheVariants as op
-use Rattle.drain_meaning.specs.Accumulation.{accuflux_of, catchment_of}
+use Rattle.drain_meaning.specs.Accumulation.{accuflux_of, catchment_of, is_pit}
 use Rattle.drain_meaning.specs.Drains.{DrainMap, IsDrainMap, next_at}
 use Rattle.drain_meaning.specs.Equations.{passing, transport_of}
-use Rattle.drain_meaning.specs.Masks.{lddmask_of}
+use Rattle.drain_meaning.specs.Flows.{material, total_flow}
+use Rattle.drain_meaning.specs.Masks.{lddmask_of, leads_on}
 use Rattle.drain_meaning.specs.Paths.{IsDirected, IsFollowedBy, IsSound, path_of}
 use Rattle.drain_meaning.specs.Sound.{IsDrain}
 use Rattle.drain_meaning.specs.Transports.{AreEnds, Transport, end_of}
@@ -35,6 +37,15 @@ abbrev pub SumOverPaths : Type 0
 SumOverPaths =
     (m : DrainMap) (a b : ℕ → Cell) → IsSound m → (c : ℕ) → IsDirected m c →
     end_of (transport_of op.Accuflux) m a b c ≡ passing (accuflux_of m a c)
+
+-- What comes together at the pits of a sound map is the material of all cells with a direction; it is missing where one of
+-- these is.
+abbrev pub KeepMass : Type 0
+KeepMass =
+    (m : DrainMap) (a : ℕ → Cell) → IsSound m →
+    let places = range_with_len 0 (length m.codes) in
+    total_flow (map (accuflux_of m a) (filter (λ p. is_pit (next_at m p)) places))
+    ≡ total_flow (map (λ q. material (a q)) (filter (λ q. leads_on (next_at m q)) places))
 
 -- `catchment` is the point farthest down the path
 abbrev pub ChooseOnPaths : Type 0

@@ -1,7 +1,7 @@
 //! What holds of all drain maps, in the subject's words.
 
 ghost use Rattle.drain_meaning.specs.Examples.{MapExamples, TransportExamples};
-ghost use Rattle.drain_meaning.specs.Laws.{AreTheOnlyEnds, ChooseOnPaths, ListTheirCells, MeetTheirEquation, StayInTheMap, StaySound, SumOverPaths};
+ghost use Rattle.drain_meaning.specs.Laws.{AreTheOnlyEnds, ChooseOnPaths, KeepMass, ListTheirCells, MeetTheirEquation, StayInTheMap, StaySound, SumOverPaths};
 
 /// Worked examples come out as they were worked out by hand.
 pub fn worked_examples_come_out()
@@ -28,6 +28,11 @@ pub fn transports_meet_their_equation()
 /// `accuflux` is the sum of the material of all cells whose path holds a cell, missing where one of these is.
 pub fn accumulations_sum_over_paths()
     ensures { SumOverPaths }
+{}
+
+/// What comes together at the pits is the material of all cells with a direction, missing where one of these is.
+pub fn accumulations_keep_mass()
+    ensures { KeepMass }
 {}
 
 /// `catchment` is the last point of a path that is not 0, missing where one of the path's points is.

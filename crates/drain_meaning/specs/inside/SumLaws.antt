@@ -96,9 +96,10 @@ accu_laws = adding_laws (transport_of op.Accuflux) (λ inflow a b. passing (toge
 passed_fits : (o : Bool) (x y z : ℤ) (n : ℕ) → FitsCells x n → IsValue Scalar y → IsValue Scalar z →
     FitsCells (if o then pos 0 else ((x +ℤ y) -ℤ z)) (n + 1)
 passed_fits true x y z n f g h = (omega (arith, ints), omega (arith, ints))
-passed_fits false x y z n f g h =
-    (omega (arith, ints, f.0, f.1, g.least, g.greatest, h.least, h.greatest),
-    omega (arith, ints, f.0, f.1, g.least, g.greatest, h.least, h.greatest))
+passed_fits false x y z n f g h = (
+  omega (arith, ints, f.0, f.1, g.least, g.greatest, h.least, h.greatest),
+  omega (arith, ints, f.0, f.1, g.least, g.greatest, h.least, h.greatest),
+)
 
 -- what a threshold keeps
 kept_fits : (o : Bool) (x y z : ℤ) (n : ℕ) → FitsCells x n → IsValue Scalar y → IsValue Scalar z →
