@@ -1,0 +1,5 @@
+pub mod Histories
+pub mod Authors
+pub mod Turns
+pub mod inside
+pub mod Seats
