@@ -1,5 +1,5 @@
 -- What a seat keeps true of its view, and what the calls make of it.
-use Rattle.std.proofs.Common.{◌≡◌, ℕ, ◌+◌, ◌<◌, ◌≤◌, ◌≢◌, ◌⊎◌, Bool, true, false, List, [], ◌∷◌, ◌++◌, length, filter, Some, None, Option}
+use Rattle.std.proofs.Common.{◌≡◌, ℕ, ◌+◌, ◌<◌, ◌≤◌, ◌≢◌, ◌⊎◌, Bool, true, false, List, [], ◌∷◌, ◌++◌, length, filter, Some, None, Option, Box}
 use Rattle.std.proofs.Common.{refl, sym, ap, ◌∙◌, inl, inr, subst, arith}
 use mathlib.Core.List.{IsPrefix}
 use mathlib.Core.Logic.{dite}
@@ -8,7 +8,7 @@ use Rattle.atomic_table.specs.Table.{Me, Step, rest}
 use Rattle.turn_cell.specs.declared.view.View.{View}
 use Rattle.turn_cell.specs.Authors.{authors_below, least_author, greatest_author, without_author, times_among, AreDistinct}
 use Rattle.turn_cell.specs.Histories.{Appends, is_author, entries_by}
-use Rattle.turn_cell.specs.inside.Views.{opening_view, left_view, newcomer_view, told_view, settled_view, idle_view, HasSettled, SettlesView, MayFind, holding_view, gave_turn}
+use Rattle.turn_cell.specs.inside.Views.{boxed, opening_view, left_view, newcomer_view, told_view, settled_view, idle_view, HasSettled, SettlesView, MayFind, holding_view, gave_turn}
 use Rattle.turn_cell.proofs.AuthorLemmas.{some_among, among_is, first_in, times_without_other, times_append, greatest_once, greatest_in, least_in, length_without, zero_stays, without_is, alone_is, without_distinct, alone_distinct, below_distinct, length_below, zero_below}
 use Rattle.turn_cell.proofs.EntryLemmas.{same_parts, more_longer}
 
@@ -146,3 +146,9 @@ module _ {B P E : Type 0} (plan : B → P) (history : B → List E) (author : E 
       let none : gave.1 ≡ [] = one_rest m.1 gave.1 [] (Some gave.0) (Some b) gave.2 held in
       let left : View P E → B → List (ℕ × Option B) → Me (Option B) (View P E) = λ u c xs. (idle_view u (history c), xs) in
       gave.3 ∙ (ap (λ (k : Me (Option B) (View P E)). left k.0 gave.0 gave.1) is ∙ (ap (λ (c : B). left v c gave.1) same ∙ ap (left v b) none))
+
+-- what a view may find in a block, it may find outside
+pub unboxed : {B P E A : Type 0} (plan : B → P) (history : B → List E) (author : E → ℕ) (v : View P E) (b : Box B A) (x : B) → x ≡ b.value → MayFind (boxed plan) (boxed history) author v b → MayFind plan history author v x
+unboxed plan history author v b x e m =
+    let inner : MayFind plan history author v b.value = record { planned = m.planned; begins = m.begins; own = m.own } in
+    subst (MayFind plan history author v) (sym e) inner

@@ -1,13 +1,14 @@
 //! The cell, its seats, and their calls.
 
-ghost use Rattle.std.specs.Prelude.{◌≡◌, ℕ, ◌+◌, ◌<◌, ◌≤◌, true, false, [], ◌∷◌, ◌++◌, length, Some, IfOk, IfErr};
+ghost use Rattle.std.specs.Prelude.{◌≡◌, ℕ, ◌+◌, ◌<◌, ◌≤◌, true, false, [], ◌∷◌, ◌++◌, length, Some, Box, IfOk, IfErr};
 ghost use Rattle.turn_cell.specs.Authors.{authors_below, least_author, greatest_author, without_author, AreDistinct};
 ghost use Rattle.turn_cell.specs.Histories.{Appends, is_author, entries_by, longer};
-ghost use Rattle.turn_cell.specs.inside.Views.{HasSettled, MayFind, SettlesView, told_view, holding_view};
+ghost use Rattle.turn_cell.specs.inside.Views.{boxed, HasSettled, MayFind, SettlesView, told_view, holding_view};
+ghost use Rattle.std.specs.declared.alloc.Global.{Global};
 ghost use mathlib.Core.List.{IsPrefix};
 
 use crate::chronicle::{Chronicle, Job};
-use crate::rule::{About, Cut, Give, Glue, Look, Settle, Take, Turns};
+use crate::rule::{About, Cut, Give, Glue, Look, Settle, Slot, Take, Turns};
 use crate::view::View;
 use atomic_table::{Refused, Seat, Table};
 use std::alloc::{AllocFailed, Global};
@@ -17,14 +18,14 @@ use std::thread;
 /// One value behind one turn word.
 #[derive(Drop)]
 pub struct TurnCell<B: Chronicle> {
-    table: Table<Option<B>, View<B::Plan, B::Entry>, About<B>, Turns<B>, Global>,
+    table: Table<Slot<B>, View<B::Plan, B::Entry>, About<B>, Turns<B>, Global>,
     ghost one_word: { table.shared.table_id.words ≡ 1 },
     ghost one_slot: { table.shared.table_id.slots ≡ 1 },
 }
 
 /// What one thread knows of a cell. It has no bytes.
 pub struct TurnSeat<B: Chronicle> {
-    seat: Seat<Option<B>, View<B::Plan, B::Entry>>,
+    seat: Seat<Slot<B>, View<B::Plan, B::Entry>>,
     ghost idle: { seat.me.1 ≡ [] },
     ghost free: { seat.me.0.holds ≡ false },
     ghost settled: { HasSettled seat.me.0 },
@@ -40,7 +41,7 @@ impl<B: Chronicle> Drop for TurnSeat<B> {
 }
 
 impl<B: Chronicle> TurnSeat<B> {
-    fn into_inner(self) -> Seat<Option<B>, View<B::Plan, B::Entry>>
+    fn into_inner(self) -> Seat<Slot<B>, View<B::Plan, B::Entry>>
         ensures { result ≡ self.seat }
     {
         let TurnSeat { seat } = self;
@@ -49,7 +50,7 @@ impl<B: Chronicle> TurnSeat<B> {
 }
 
 // A list of this value alone.
-fn alone<B>(alloc: Global, value: B) -> Result<Vec<Option<B>>, B>
+fn alone<T>(alloc: Global, value: T) -> Result<Vec<Option<T>>, T>
     ensures made { IfOk result (λ slots. slots.items ≡ Some value ∷ []) }
     ensures refused { IfErr result (λ back. back ≡ value) }
 {
@@ -63,14 +64,47 @@ fn alone<B>(alloc: Global, value: B) -> Result<Vec<Option<B>>, B>
     }
 }
 
+// The value in a block of its own.
+fn in_block<T>(alloc: Global, value: T) -> Result<Box<T>, T>
+    ensures made { IfOk result (λ block. block.value ≡ value) }
+    ensures refused { IfErr result (λ back. back ≡ value) }
+{
+    match Box::new(alloc, value) {
+        Ok(block) => Ok(block),
+        Err(AllocFailed { value }) => Err(value),
+    }
+}
+
+// The one slot of a cell, with the value in a block.
+fn laid<T>(alloc: Global, value: T) -> Result<Vec<Option<Box<T>>>, T>
+    ensures made { IfOk result (λ slots. (block : Box T Global) × (slots.items ≡ Some block ∷ []) × (block.value ≡ value)) }
+    ensures refused { IfErr result (λ back. back ≡ value) }
+{
+    let block = in_block(alloc, value)?;
+    match alone(alloc, block) {
+        Ok(slots) => Ok(slots),
+        Err(block) => Err(Box::into_inner(block)),
+    }
+}
+
 // The one value of a list.
-fn only<B>(mut slots: Vec<Option<B>>) -> B
-    requires { (value : B) × (slots.items ≡ Some value ∷ []) }
+fn only<T>(mut slots: Vec<Option<T>>) -> T
+    requires { (value : T) × (slots.items ≡ Some value ∷ []) }
     ensures { slots.items ≡ Some result ∷ [] }
 {
     let slot = slots.pop().unwrap();
     slots.destroy_empty();
     slot.unwrap()
+}
+
+// Lets the job act on the value of a block.
+fn act_in<B: Chronicle, J: Job<B>>(block: &mut Box<B>, job: J) -> J::Answer
+    requires { J.can_act job block.old.value }
+    ensures gives { J.gives job block.old.value result block.new.value }
+    ensures plan { B.plan block.new.value ≡ B.plan block.old.value }
+    ensures history { Appends B.author (J.acts_as job) (B.history block.old.value) (B.history block.new.value) }
+{
+    job.act(&mut *block)
 }
 
 impl<B: Chronicle> TurnCell<B> {
@@ -86,10 +120,10 @@ impl<B: Chronicle> TurnCell<B> {
         ensures refused { IfErr result (λ v. v ≡ value) }
     {
         let about = About::of(&value, seats);
-        let slots = alone(alloc, value)?;
+        let slots = laid(alloc, value)?;
         match Table::new(alloc, &[0], slots, &about) {
             Ok((table, seat)) => Ok((TurnCell { table }, TurnSeat { seat })),
-            Err(Refused { slots }) => Err(only(slots)),
+            Err(Refused { slots }) => Err(Box::into_inner(only(slots))),
         }
     }
 
@@ -140,7 +174,7 @@ impl<B: Chronicle> TurnCell<B> {
         self.take_turn(rt, &mut seat.seat);
         let shared = &self.table.shared;
         let mut value = shared.exchange(&mut seat.seat, 0, None).unwrap();
-        let answer = job.act(&mut value);
+        let answer = act_in(&mut value, job);
         let out = shared.exchange(&mut seat.seat, 0, Some(value));
         let None = out else { unreachable!() };
         shared.store::<Give<B>>(&mut seat.seat, 0, 0);
@@ -158,14 +192,14 @@ impl<B: Chronicle> TurnCell<B> {
         let mut closed = table.close_with(seat.into_inner());
         let slot = closed.take(0);
         closed.free();
-        slot.unwrap()
+        Box::into_inner(slot.unwrap())
     }
 
     // Joins the two, and then loads the turn, which settles what the first was told: a join itself tells nothing.
     fn take_in(
         &self,
-        seat: &mut Seat<Option<B>, View<B::Plan, B::Entry>>,
-        other: Seat<Option<B>, View<B::Plan, B::Entry>>,
+        seat: &mut Seat<Slot<B>, View<B::Plan, B::Entry>>,
+        other: Seat<Slot<B>, View<B::Plan, B::Entry>>,
     )
         requires cell { (seat.old.table_id ≡ self.now.table.shared.table_id) × (other.table_id ≡ self.now.table.shared.table_id) }
         requires idle { (seat.old.me.1 ≡ []) × (other.me.1 ≡ []) × (other.me.0.holds ≡ false) }
@@ -180,11 +214,11 @@ impl<B: Chronicle> TurnCell<B> {
     }
 
     // Waits for the turn, and takes it.
-    fn take_turn<R: Wait>(&self, rt: &R, seat: &mut Seat<Option<B>, View<B::Plan, B::Entry>>)
+    fn take_turn<R: Wait>(&self, rt: &R, seat: &mut Seat<Slot<B>, View<B::Plan, B::Entry>>)
         requires cell { seat.old.table_id ≡ self.now.table.shared.table_id }
         requires idle { (seat.old.me.1 ≡ []) × (0 < length seat.old.me.0.authors) }
         ensures cell { seat.new.table_id ≡ seat.old.table_id }
-        ensures took { (b : B) × (seat.new.me ≡ (holding_view seat.old.me.0 (B.history b), (0, Some b) ∷ [])) × MayFind B.plan B.history B.author seat.old.me.0 b }
+        ensures took { (b : Box B Global) × (seat.new.me ≡ (holding_view seat.old.me.0 (boxed B.history b), (0, Some b) ∷ [])) × MayFind (boxed B.plan) (boxed B.history) B.author seat.old.me.0 b }
     {
         for _ in rt.forever() {
             if self.table.shared.load::<Look>(seat, 0) == 0

@@ -2,13 +2,16 @@
 
 ghost use Rattle.std.specs.Prelude.{◌≡◌};
 ghost use Rattle.turn_cell.specs.inside.Views.{opening_view, left_view, newcomer_view, told_view, spent_view};
-ghost use Rattle.turn_cell.specs.inside.Views.{looked, settled_both, took_turn, gave_turn};
+ghost use Rattle.turn_cell.specs.inside.Views.{boxed, looked, settled_both, took_turn, gave_turn};
 
 use crate::chronicle::Chronicle;
 use crate::view::View;
 use atomic_table::{Join, Play, Split, TableRule};
 use std::marker::PhantomData;
 use std::snapshot::Snapshot;
+
+/// Where the value is at home. It lies in a block of its own, so that a turn moves a pointer and no more.
+pub type Slot<B> = Option<Box<B>>;
 
 /// What the table is told when it is made: the value that it begins with, and how many seats there may be.
 pub struct About<B> {
@@ -39,10 +42,10 @@ pub struct Turns<B> {
     marker: PhantomData<B>,
 }
 
-impl<B: Chronicle> TableRule<Option<B>, View<B::Plan, B::Entry>, About<B>> for Turns<B> {
+impl<B: Chronicle> TableRule<Slot<B>, View<B::Plan, B::Entry>, About<B>> for Turns<B> {
     ghost use Rattle.turn_cell.specs.inside.Ruled.{KeepsTurns};
 
-    ghost holds = { λ about. KeepsTurns B.plan B.history B.author (B.plan about.start.value) about.seats };
+    ghost holds = { λ about. KeepsTurns (boxed B.plan) (boxed B.history) B.author (B.plan about.start.value) about.seats };
 
     ghost first = { λ about. opening_view (B.plan about.start.value) about.seats };
 }
@@ -77,7 +80,7 @@ pub struct Settle<B> {
     marker: PhantomData<B>,
 }
 
-impl<B: Chronicle> Play<Option<B>, View<B::Plan, B::Entry>> for Settle<B> {
+impl<B: Chronicle> Play<Slot<B>, View<B::Plan, B::Entry>> for Settle<B> {
     ghost then = { settled_both B.author };
 }
 
@@ -86,8 +89,8 @@ pub struct Take<B> {
     marker: PhantomData<B>,
 }
 
-impl<B: Chronicle> Play<Option<B>, View<B::Plan, B::Entry>> for Take<B> {
-    ghost then = { took_turn B.plan B.history B.author };
+impl<B: Chronicle> Play<Slot<B>, View<B::Plan, B::Entry>> for Take<B> {
+    ghost then = { took_turn (boxed B.plan) (boxed B.history) B.author };
 }
 
 /// The store that gives the turn back.
@@ -95,6 +98,6 @@ pub struct Give<B> {
     marker: PhantomData<B>,
 }
 
-impl<B: Chronicle> Play<Option<B>, View<B::Plan, B::Entry>> for Give<B> {
-    ghost then = { gave_turn B.history };
+impl<B: Chronicle> Play<Slot<B>, View<B::Plan, B::Entry>> for Give<B> {
+    ghost then = { gave_turn (boxed B.history) };
 }

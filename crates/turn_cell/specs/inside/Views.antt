@@ -1,10 +1,16 @@
 -- Views, and what each step of a seat makes of them.
 use Rattle.std.specs.Prelude.{◌≡◌, ◌≢◌, ℕ, Bool, true, false, List, [], ◌∷◌, ◌++◌, Some, None, Option}
+use Rattle.std.specs.Box.{box_value}
+use Rattle.std.specs.declared.boxed.Box.{Box}
 use mathlib.Core.List.{IsPrefix}
 use Rattle.atomic_table.specs.Table.{Me, Step}
 use Rattle.turn_cell.specs.declared.view.View.{View}
 use Rattle.turn_cell.specs.Authors.{authors_below, greatest_author, without_author, AreDistinct}
 use Rattle.turn_cell.specs.Histories.{entries_by, longer}
+
+-- what a value means that lies in a block of its own
+abbrev pub boxed : {B X A : Type 0} → (B → X) → Box B A → X
+boxed meaning x = meaning (box_value x)
 
 -- the view of the first seat
 abbrev pub opening_view : {P E : Type 0} → P → ℕ → View P E

@@ -7,7 +7,11 @@ pub new-requires : goal.new-requires
 new-requires g c =
     let b = g.B.Chronicle in
     let about = c.of-about.ensures in
-    opens_with _ _ _ _ _ _ c.args.value c.in_ok-slots.ensures.made c.requires.empty (ap b.plan (sym about.0)) (subst (λ k. 0 < k) (sym about.1) c.requires.seats)
+    let made = c.in_ok-slots.ensures.made in
+    opens_with _ _ _ _ _ _ made.0 made.1 (ap b.history made.2 ∙ c.requires.empty) (ap b.plan made.2 ∙ ap b.plan (sym about.0)) (subst (λ k. 0 < k) (sym about.1) c.requires.seats)
+
+pub only-requires : goal.only-requires
+only-requires g c = let made = c.in_ok-slots.ensures.made in (made.0, c.in-Err.ensures.err ∙ made.1)
 
 pub invariant_of-result-in-Ok : goal.invariant_of-result-in-Ok
 invariant_of-result-in-Ok g c =
