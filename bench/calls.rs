@@ -1,8 +1,9 @@
 //! The calls of `crates/timed_calls` in stock Rust: the same loops over the same 16-byte cells, the best of as many rounds.
-//! It prints the lines that `timed_calls` prints for `cells`, `maps`, `tiles` and `table`.
+//! It prints the lines that `timed_calls` prints for `cells`, `maps`, `tiles`, `table` and `turns`.
 
 use std::env;
 use std::hint::black_box;
+use std::sync::Mutex;
 use std::time::Instant;
 
 #[derive(Clone, Copy, PartialEq)]
@@ -182,12 +183,28 @@ fn time_table() {
     println!("find {best} {key}");
 }
 
+/// Turns that nobody contends for: the lock of a mutex, and a job that adds what the one before gave.
+fn time_turns() {
+    let tally = Mutex::new(0u64);
+    let mut number = 1u64;
+    let (best, _) = best_of(20, || {
+        for n in 0..1_000_000u64 {
+            let mut held = black_box(&tally).lock().unwrap();
+            *held = held.wrapping_add(number ^ n);
+            number = *held;
+        }
+        0
+    });
+    println!("turn {best} {number}");
+}
+
 fn main() {
     match env::args().nth(1).as_deref() {
         Some("cells") => time_cells(100_000, 200),
         Some("maps") => time_cells(2048 * 2048, 5),
         Some("tiles") => time_tiles(),
         Some("table") => time_table(),
-        _ => println!("tiles | cells | maps | table"),
+        Some("turns") => time_turns(),
+        _ => println!("tiles | cells | maps | table | turns"),
     }
 }

@@ -1,31 +1,35 @@
-//! Times calls that no script reaches yet, for `make bench`: `tiles`, `cells`, `maps` or `table`. Without a word it says these.
+//! Times calls that no script reaches yet, for `make bench`: `tiles`, `cells`, `maps`, `table` or `turns`. Without a word it says these.
 #![tactic(auto)]
 
 mod best;
 mod cells;
 mod table;
 mod tiles;
+mod turns;
 
 use cells::time_cells;
 use std::env;
 use std::rt::{Clock, Env};
+use std::sync::Wait;
 use std::test::Fail;
 use table::time_table;
 use tiles::time_tiles;
+use turns::time_turns;
 
 // Times what the first word names.
-fn run<R: Clock + Env + Print + AllocGlobal>(rt: &R) -> Result<(), Fail> {
+fn run<R: Clock + Env + Print + AllocGlobal + Wait>(rt: &R) -> Result<(), Fail> {
     for arg in env::args(rt)?.skip(1) {
         match arg.as_bytes() {
             b"tiles" => time_tiles(rt)?,
             b"cells" => time_cells(rt, 100_000, 200)?,
             b"maps" => time_cells(rt, 2048 * 2048, 5)?,
             b"table" => time_table(rt)?,
-            _ => println!(rt; "tiles | cells | maps | table")?,
+            b"turns" => time_turns(rt)?,
+            _ => println!(rt; "tiles | cells | maps | table | turns")?,
         }
         return Ok(());
     }
-    println!(rt; "tiles | cells | maps | table")?;
+    println!(rt; "tiles | cells | maps | table | turns")?;
     Ok(())
 }
 

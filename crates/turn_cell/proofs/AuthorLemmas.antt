@@ -38,10 +38,10 @@ times_append a [] ys = sym (zero-add (times_among a ys))
 times_append a (x ∷ xs) ys = let n : ℕ = if a == x then 1 else 0 in let h = times_append a xs ys in let k : n + times_among a (xs ++ ys) ≡ (n + times_among a xs) + times_among a ys = omega arith in k
 
 -- the list that is left where the first number is or is not the one that goes
-left_at : (g b : ℕ) (xs : List ℕ) (c : Bool) → (g == b) ≡ c → without_author g (b ∷ xs) ≡ cond (not c) (b ∷ without_author g xs) (without_author g xs)
+pub left_at : (g b : ℕ) (xs : List ℕ) (c : Bool) → (g == b) ≡ c → without_author g (b ∷ xs) ≡ cond (not c) (b ∷ without_author g xs) (without_author g xs)
 left_at g b xs c e = ap (λ (d : Bool). cond (not d) (b ∷ without_author g xs) (without_author g xs)) e
 
-times_at : (a b : ℕ) (xs : List ℕ) (c : Bool) → (a == b) ≡ c → times_among a (b ∷ xs) ≡ (if c then 1 else 0) + times_among a xs
+pub times_at : (a b : ℕ) (xs : List ℕ) (c : Bool) → (a == b) ≡ c → times_among a (b ∷ xs) ≡ (if c then 1 else 0) + times_among a xs
 times_at a b xs c e = ap (λ (d : Bool). (if d then 1 else 0) + times_among a xs) e
 
 pub times_without_self : (g : ℕ) (xs : List ℕ) → times_among g (without_author g xs) ≡ 0

@@ -4,3 +4,4 @@ pub mod EntryLemmas
 pub mod ViewLemmas
 pub mod StepLemmas
 pub mod SeatLemmas
+pub mod Callers

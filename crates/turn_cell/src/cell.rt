@@ -140,9 +140,8 @@ impl<B: Chronicle> TurnCell<B> {
         ensures share { (share_of seat.new + 1 ≡ share_of seat.old) × (share_of result ≡ 1) }
         ensures own { (own_entries seat.new ≡ own_entries seat.old) × (own_entries result ≡ []) }
     {
-        TurnSeat {
-            seat: self.table.shared.split_seat::<Cut>(&mut seat.seat),
-        }
+        let given = self.table.shared.split_seat::<Cut>(&mut seat.seat);
+        TurnSeat { seat: given }
     }
 
     /// Takes in another seat. The two have then seen the longer of their histories, which begins with the other.
