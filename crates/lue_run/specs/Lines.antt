@@ -48,35 +48,35 @@ abbrev pub over_line : OverAt → List ℕ
 over_line at = codes "overflow step " ++ decimal at.step ++ codes " statement " ++ decimal at.statement
     ++ codes " operation " ++ decimal at.operation ++ codes " row " ++ decimal at.row ++ codes " col " ++ decimal at.col ++ codes "\n"
 
--- how an answer is told: its line, which is empty where none is written, and the exit status
-pub record Told : Type 0 where
+-- a row of the table of answers: the line, which is empty where none is written, and the exit status
+pub record AnswerRow : Type 0 where
   pub line : List ℕ
   pub status : ℕ
 
--- an answer that is told so
-abbrev pub told : List ℕ → ℕ → Told
-told line status = record { line = line; status = status }
+-- the row of this line and this status
+abbrev pub answer_row : List ℕ → ℕ → AnswerRow
+answer_row line status = record { line = line; status = status }
 
--- the answers, each with its line and its status
-abbrev pub told_of : Ended → Told
-told_of (Done files steps) = told (codes "done files=" ++ decimal files ++ codes " steps=" ++ decimal steps ++ codes "\n") 0
-told_of Usage = told (codes "usage\n") 2
-told_of (Missing name) = told (named_line (codes "missing ") name) 4
-told_of (TooLong name) = told (named_line (codes "too long ") name) 4
-told_of (Script fault) = told (script_line fault) 3
-told_of (Unbuilt name) = told (named_line (codes "unbuilt ") name) 11
-told_of (Input name kind) = told (input_line name kind) 4
-told_of (TooManyTasks count) = told (codes "tasks " ++ decimal count ++ codes "\n") 6
-told_of (Overflow at) = told (over_line at) 5
-told_of (FolderReadFault name) = told (named_line (codes "read fault ") name) 7
-told_of (FolderWriteFault name) = told (named_line (codes "write fault ") name) 8
-told_of (OutFault instead) = told [] 9
-told_of Memory = told [] 10
+-- the table of answers: the line and the status of each
+abbrev pub answer_row_of : Ended → AnswerRow
+answer_row_of (Done files steps) = answer_row (codes "done files=" ++ decimal files ++ codes " steps=" ++ decimal steps ++ codes "\n") 0
+answer_row_of Usage = answer_row (codes "usage\n") 2
+answer_row_of (Missing name) = answer_row (named_line (codes "missing ") name) 4
+answer_row_of (TooLong name) = answer_row (named_line (codes "too long ") name) 4
+answer_row_of (Script fault) = answer_row (script_line fault) 3
+answer_row_of (Unbuilt name) = answer_row (named_line (codes "unbuilt ") name) 11
+answer_row_of (Input name kind) = answer_row (input_line name kind) 4
+answer_row_of (TooManyTasks count) = answer_row (codes "tasks " ++ decimal count ++ codes "\n") 6
+answer_row_of (Overflow at) = answer_row (over_line at) 5
+answer_row_of (FolderReadFault name) = answer_row (named_line (codes "read fault ") name) 7
+answer_row_of (FolderWriteFault name) = answer_row (named_line (codes "write fault ") name) 8
+answer_row_of (OutFault instead) = answer_row [] 9
+answer_row_of Memory = answer_row [] 10
 
 -- the line of an answer
 abbrev pub line_of : Ended → List ℕ
-line_of end = (told_of end).line
+line_of end = (answer_row_of end).line
 
 -- the exit status of an answer
 abbrev pub status_of : Ended → ℕ
-status_of end = (told_of end).status
+status_of end = (answer_row_of end).status
