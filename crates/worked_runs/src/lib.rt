@@ -1,12 +1,22 @@
-//! Whole runs of the top calls over folders and sinks in memory: worked examples with their files, lines and statuses,
-//! and a fault of each call in turn. The crate has tests alone.
+//! Whole runs of the top calls over folders and sinks in memory: scripts with their files, lines and statuses, each call
+//! that fails in turn, and runners of the tests. The crate has tests alone.
 #![tactic(auto)]
 
 #[cfg(test)]
+mod ends;
+#[cfg(test)]
 mod faults;
+#[cfg(test)]
+mod files;
+#[cfg(test)]
+mod noting;
+#[cfg(test)]
+mod runners;
 #[cfg(test)]
 mod runs;
 #[cfg(test)]
 mod scant;
 #[cfg(test)]
-mod verdicts;
+mod scripts;
+#[cfg(test)]
+mod weak;

@@ -1,0 +1,192 @@
+//! Runs whose words and files alone decide that nothing is put: a row for each end, with its line and its status.
+
+use crate::files::{AREA, THREE, folder_of};
+use crate::runs::{end_of, expect_end, expect_puts};
+use lue_run::Ended;
+use outside_io::{CalmFolder, CalmSink};
+use std::alloc::Global;
+use std::process::Abort;
+use std::test::Fail;
+
+/// A script, the status and the line.
+type Case = (&'static str, u8, &'static str);
+
+/// A name of 65 letters.
+const LONG_NAME: &str = "areamap r.asc; initial \
+    AAAAAAAAAABBBBBBBBBBCCCCCCCCCCDDDDDDDDDDEEEEEEEEEEFFFFFFFFFFGGGGG = 1;";
+
+static SCRIPTS: [Case; 24] = [
+    // the first fault of the text
+    ("", 3, "script 1:1 end\n"),
+    ("areamap r.asc; initial C = 1 $ 2;", 3, "script 1:30 byte\n"),
+    ("areamap r.asc;\ninitial\nC 1;", 3, "script 3:3 token\n"),
+    ("areamap r.asc;\ninitial C = 1", 3, "script 2:14 end\n"),
+    (LONG_NAME, 3, "script 1:24 long\n"),
+    (
+        "areamap r.asc; timer 2 4 1; dynamic C = 1;",
+        3,
+        "script 1:22 number\n",
+    ),
+    (
+        "areamap r.asc; initial C = windowtotal(r, 3) +;",
+        3,
+        "script 1:47 token\n",
+    ),
+    // something that is not built, before each fault of meaning
+    (
+        "areamap r.asc; initial C = windowtotal(r, 3);",
+        11,
+        "unbuilt m.mod\n",
+    ),
+    (
+        "areamap r.asc; initial C = Z; D = maptotal(C);",
+        11,
+        "unbuilt m.mod\n",
+    ),
+    (
+        "areamap r.asc; timer 1 4 1; dynamic report C = 1;",
+        11,
+        "unbuilt m.mod\n",
+    ),
+    // the first fault of meaning
+    (
+        "binding A = a.asc; A = b.asc; areamap Z; initial C = Y;",
+        3,
+        "script binding 2 name-clash\n",
+    ),
+    (
+        "binding K = 3.5 : nominal; areamap r.asc; initial C = K;",
+        3,
+        "script binding 1 kind-mismatch\n",
+    ),
+    (
+        "binding K = 3; areamap K; initial C = Y;",
+        3,
+        "script areamap kind-mismatch\n",
+    ),
+    (
+        "binding A = r.asc; areamap A; initial A = 1;",
+        3,
+        "script areamap name-clash\n",
+    ),
+    (
+        "areamap r.asc; initial X = 1; C = X + Z;",
+        3,
+        "script statement 2 unknown-name\n",
+    ),
+    (
+        "areamap r.asc; initial C = D; D = 1;",
+        3,
+        "script statement 1 not-assigned\n",
+    ),
+    (
+        "binding N = n.asc : nominal; areamap r.asc; initial X = 1; Y = 1; C = X + N;",
+        3,
+        "script statement 3 kind-mismatch\n",
+    ),
+    (
+        "areamap r.asc; initial report C = 1; report C = 2;",
+        3,
+        "script statement 2 name-clash\n",
+    ),
+    // inputs: the area map first, then each other one that is used, in the order of `binding`
+    (
+        "binding A = u.asc; B = v.asc; areamap B; initial C = A;",
+        4,
+        "missing v.asc\n",
+    ),
+    (
+        "binding B = v.asc; A = u.asc; areamap r.asc; initial C = A + B;",
+        4,
+        "missing v.asc\n",
+    ),
+    (
+        "binding Q = r.asc : boolean; areamap q.asc; initial C = Q;",
+        4,
+        "input r.asc grid range 53\n",
+    ),
+    (
+        "binding S = short.asc; areamap r.asc; initial C = S;",
+        4,
+        "input short.asc grid count 53\n",
+    ),
+    (
+        "binding W = wide.asc; A = a.asc; areamap r.asc; initial C = W + A;",
+        4,
+        "input wide.asc size 1 4\n",
+    ),
+    // the first result that is out of range, though its statement reports nothing
+    (
+        "binding A = a.asc; areamap r.asc; initial X = A + 1; report C = X * X; Y = nominal(X * 1000 * 1000000);",
+        5,
+        "overflow step 0 statement 3 operation 3 row \
+            1 col 2\n",
+    ),
+];
+
+// A script ends so, and puts nothing.
+fn expect_refused(rt: &impl Abort, alloc: Global, case: &Case) -> Result<(), Fail> {
+    let mut folder = folder_of(alloc, case.0)?;
+    folder.hold(alloc, b"short.asc", AREA.as_bytes())?;
+    folder.hold(
+        alloc,
+        b"wide.asc",
+        b"ncols 4\nnrows 1\nxllcorner 0\nyllcorner 0\ncellsize 1\n1 2 3 4\n",
+    )?;
+    expect_end(rt, alloc, "plain m.mod", &mut folder, case.1, case.2)?;
+    expect_puts(rt, alloc, &folder, &[], case.2)
+}
+
+#[test]
+fn refuses_by_name_and_place(rt: HostRuntime) -> Result<(), Fail> {
+    for case in &SCRIPTS {
+        expect_refused(&rt, rt.alloc(), case)?;
+    }
+    Ok(())
+}
+
+// The text gives no command: nothing is read, and nothing is put.
+fn expect_usage(rt: &impl Abort, alloc: Global, text: &str) -> Result<(), Fail> {
+    let mut folder = folder_of(alloc, THREE)?;
+    folder.fail_on(vec![in alloc; 1]?);
+    expect_end(rt, alloc, text, &mut folder, 2, "usage\n")?;
+    expect_puts(rt, alloc, &folder, &[], text)
+}
+
+#[test]
+fn takes_no_other_words(rt: HostRuntime) -> Result<(), Fail> {
+    for text in [
+        "",
+        "plain",
+        "plain a/b",
+        "plain .mod",
+        "plain m.mod 1",
+        "run m.mod 1 1 1",
+        "make 7",
+        "--help",
+    ] {
+        expect_usage(&rt, rt.alloc(), text)?;
+    }
+    Ok(())
+}
+
+// A folder that holds more than a script may have.
+fn hold_long(alloc: Global, folder: &mut CalmFolder) -> Result<(), Fail> {
+    let long = vec![in alloc; b' '; 1_048_577]?;
+    folder.hold(alloc, b"m.mod", &long)?;
+    Ok(())
+}
+
+#[test]
+fn tells_a_script_that_is_not_there_or_too_long(rt: HostRuntime) -> Result<(), Fail> {
+    let alloc = rt.alloc();
+    let mut folder = CalmFolder::new(alloc);
+    expect_end(&rt, alloc, "plain m.mod", &mut folder, 4, "missing m.mod\n")?;
+    hold_long(alloc, &mut folder)?;
+    let mut out = CalmSink::new();
+    let Ended::TooLong(name) = end_of(alloc, "plain m.mod", &mut folder, &mut out)? else {
+        return Err(Fail::new("another answer"));
+    };
+    assert_eq!(rt; name.bytes(), b"m.mod".as_slice());
+    Ok(())
+}
