@@ -32,9 +32,10 @@ $(libraries:%=proved-%): proved-%: $$(addprefix proved-,$$(call named_by,$$*))
 	rt lib >out/lib.log 2>&1 || { cat out/lib.log; exit 1; }; \
 	if [ -s out/lib.log ]; then echo "proved $* in $$(($$(date +%s) - start)) s"; fi
 
-# Runs the first example and shows what it writes.
+# Runs the examples and shows what they write.
 demo: $(PROGRAM)
 	@scripts/demo $(PROGRAM) examples/first-sum
+	@scripts/demo $(PROGRAM) examples/storm-runoff
 
 # The gate: every proof, must-fail edit, test and program, and then the project's own checks: of its definitions, of its
 # documents and of the built program.
