@@ -11,4 +11,6 @@ mod meaning;
 #[cfg(test)]
 mod plain;
 #[cfg(test)]
+mod scripts;
+#[cfg(test)]
 mod texts;
