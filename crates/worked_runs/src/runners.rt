@@ -1,6 +1,6 @@
 //! Scripts that other runners run than the plain one.
 
-use crate::files::{THREE, THREE_PUTS, failing_folder, folder_of};
+use crate::files::{THREE_PUTS, failing_folder};
 use crate::noting::{Note, NotingRunner};
 use crate::runs::expect_puts;
 use crate::weak::WeakRunner;
@@ -8,7 +8,6 @@ use outside_io::MemFolder;
 use plain_eval::PlainRunner;
 use run_session::{SessionEnd, run_script};
 use std::alloc::Global;
-use std::process::Abort;
 use std::test::Fail;
 
 // The end of the script by a runner without memory.

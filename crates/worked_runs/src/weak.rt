@@ -1,6 +1,6 @@
 //! A runner that finds no memory.
 
-ghost use Rattle.std.specs.Prelude.{◌≡◌, ℕ, List, None, ⊤};
+ghost use Rattle.std.specs.Prelude.{None, ⊤};
 
 use map_meaning::{BlockRunner, Known, Program, Span, StageEnd};
 use plain_eval::PlainRunner;
