@@ -1,5 +1,5 @@
 -- The value of a list of operations, one by one over whole maps.
-use Rattle.std.specs.Prelude.{ℕ, List, [], ◌∷◌, ◌++◌, map, Result, Ok}
+use Rattle.std.specs.Prelude.{ℕ, ◌==◌, List, [], ◌∷◌, ◌++◌, map, Result, Ok, if◌then◌else◌}
 use Rattle.text_base.specs.Results.{◌>>=◌}
 use Rattle.tile_map.specs.Cuts.{cell_at}
 use Rattle.tile_map.specs.Parts.{Outcome, part_of}
@@ -8,37 +8,56 @@ use Rattle.map_meaning.specs.declared.known.OverAt.{OverAt}
 use Rattle.map_meaning.specs.declared.known.Span.{Span}
 use Rattle.map_meaning.specs.declared.known.Span.TheVariants as span
 use Rattle.map_meaning.specs.declared.program.Operand.{Operand}
-use Rattle.map_meaning.specs.declared.program.Operand.TheVariants.{Unused, Literal, Input, Initial}
+use Rattle.map_meaning.specs.declared.program.Operand.TheVariants.{Unused, Literal, Time, Input, Stack, Initial, Now, Last}
 use Rattle.map_meaning.specs.declared.program.Operation.{Operation}
 use Rattle.map_meaning.specs.declared.program.Program.{Program}
-use Rattle.map_meaning.specs.Maps.{WholeMap, CellAt, nowhere, nth}
+use Rattle.map_meaning.specs.Maps.{WholeMap, CellAt, nowhere, nth, step_cell}
 use Rattle.map_meaning.specs.Rules.{outcome_of}
-use Rattle.map_meaning.specs.Scenes.{Scene, place_count, setting_in}
+use Rattle.map_meaning.specs.Scenes.{Scene, place_count, setting_at, stack_map}
 use Rattle.map_meaning.specs.Overs.{whole_or_over}
 use Rattle.map_meaning.specs.Programs.{kinds_of, operands_of}
 
--- the maps of the operations that are done, by their numbers
+-- the maps of the operations that are done, by their numbers: those of `initial`, those of `dynamic` at the step, and those of
+-- `dynamic` at the step before
 pub record Done : Type 0 where
   pub initial : List WholeMap
+  pub dynamic : List WholeMap
+  pub last : List WholeMap
+
+-- nothing is done
+abbrev pub nothing_done : Done
+nothing_done = record { initial = []; dynamic = []; last = [] }
 
 -- the same with the map of the next operation of the span
 abbrev pub with_map : Span → Done → WholeMap → Done
-with_map (span.Initial first end) done m = record { initial = done.initial ++ m ∷ [] }
+with_map (span.Initial first end) done m = record { initial = done.initial ++ m ∷ []; dynamic = done.dynamic; last = done.last }
+with_map (span.Steps first last) done m = record { initial = done.initial; dynamic = done.dynamic ++ m ∷ []; last = done.last }
 
 -- the maps of the operations of the span's section, by their numbers
 abbrev pub section_maps : Span → Done → List WholeMap
 section_maps (span.Initial first end) done = done.initial
+section_maps (span.Steps first last) done = done.dynamic
+
+-- The map that a name had at the end of the step before, where `dynamic` and `initial` gave it those of these operations: at
+-- step 1 the map of `initial`.
+abbrev pub last_map : Scene → Done → ℕ → ℕ → WholeMap
+last_map scene done dynamic initial = if scene.step == 1 then nth done.initial initial else nth done.last dynamic
 
 -- an operand by its places
 abbrev pub operand_cell : Scene → Done → Operand → CellAt
 operand_cell scene done Unused = nowhere
 operand_cell scene done (Literal kind cell) = λ place. cell
+operand_cell scene done Time = λ place. step_cell scene.step
 operand_cell scene done (Input n) = cell_at (nth scene.inputs n)
+operand_cell scene done (Stack n) = cell_at (stack_map scene n)
 operand_cell scene done (Initial n) = cell_at (nth done.initial n)
+operand_cell scene done (Now n) = cell_at (nth done.dynamic n)
+operand_cell scene done (Last dynamic initial) = cell_at (last_map scene done dynamic initial)
 
 -- what an operation gives at a place
 abbrev pub outcome_at : Program → Scene → Done → Operation → ℕ → Outcome
-outcome_at program scene done o = outcome_of o.op (setting_in scene (kinds_of program o)) (map (operand_cell scene done) (operands_of o))
+outcome_at program scene done o =
+    outcome_of o.op (setting_at scene o.file (kinds_of program o)) (map (operand_cell scene done) (operands_of o))
 
 -- the map of an operation, with a missing value where it is Over, and its first Over
 unfoldable pub operation_part : Program → Scene → Done → Operation → Part

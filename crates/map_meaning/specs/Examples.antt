@@ -1,27 +1,36 @@
 -- Worked examples: what the definitions give at cells, programs and statements that were worked out by hand.
-use Rattle.std.specs.Prelude.{◌≡◌, ℕ, ◌*◌, Bool, true, false, List, [], ◌∷◌, pos, neg_ℤ, map, codes}
+use Rattle.std.specs.Prelude.{◌≡◌, ℕ, ◌*◌, ◌==◌, Bool, true, false, List, [], ◌∷◌, pos, neg_ℤ, map, codes}
 use Rattle.std.specs.Prelude.{Option, Some, None, Result, Ok, Err}
+use Rattle.std.specs.List.{filter}
 use Rattle.cell_values.specs.declared.kind.Kind.{Kind}
 use Rattle.cell_values.specs.declared.kind.Kind.TheVariants.{Boolean, Nominal, Ordinal, Scalar}
 use Rattle.cell_values.specs.declared.cell.Cell.{Cell}
 use Rattle.cell_values.specs.declared.cell.Cell.TheVariants.{Mv, Val}
+use Rattle.lookup_table.specs.Form.{TableValue}
+use Rattle.lookup_table.specs.Keys.{greatest_number, least_number}
+use Rattle.time_series.specs.Form.{SeriesValue}
+use Rattle.text_base.specs.Results.{◌>>=◌}
 use Rattle.tile_map.specs.Cuts.{cell_at}
 use Rattle.tile_map.specs.Parts.{part_of}
 use Rattle.map_meaning.specs.declared.op.Op.{Op}
 use Rattle.map_meaning.specs.declared.op.Op.TheVariants as op
 use Rattle.map_meaning.specs.declared.known.Known.{Known}
 use Rattle.map_meaning.specs.declared.known.OverAt.{OverAt}
+use Rattle.map_meaning.specs.declared.known.Span.TheVariants as span
+use Rattle.map_meaning.specs.declared.known.StageEnd.{StageEnd}
+use Rattle.map_meaning.specs.declared.known.StepMap.{StepMap}
+use Rattle.map_meaning.specs.declared.program.Operand.{Operand}
 use Rattle.map_meaning.specs.declared.program.Operation.{Operation}
 use Rattle.map_meaning.specs.declared.program.Operand.TheVariants as from
 use Rattle.map_meaning.specs.declared.program.OutputKind.TheVariants.{InitialGrid}
 use Rattle.map_meaning.specs.declared.program.Program.{Program}
-use Rattle.map_meaning.specs.declared.program.Role.TheVariants.{Grid}
+use Rattle.map_meaning.specs.declared.program.Role.TheVariants.{Grid, Series, Stack}
 use Rattle.map_meaning.specs.declared.tree.Statement.{Statement}
 use Rattle.map_meaning.specs.declared.tree.Tree.{Tree}
 use Rattle.map_meaning.specs.declared.tree.Tree.TheVariants as tree
 use Rattle.map_meaning.specs.Local.{truth}
-use Rattle.map_meaning.specs.Rules.{outcome_of}
-use Rattle.map_meaning.specs.Table.{HasKinds, row_of}
+use Rattle.map_meaning.specs.Rules.{no_series, no_table, of_kinds, outcome_of}
+use Rattle.map_meaning.specs.Table.{HasKinds, map_row, row_of}
 use Rattle.map_meaning.specs.Scenes.{Scene}
 use Rattle.map_meaning.specs.Sections.{After, section_value}
 use Rattle.map_meaning.specs.Spans.{stage_of, whole_span}
@@ -30,11 +39,11 @@ use Rattle.map_meaning.specs.Spans.{stage_of, whole_span}
 
 -- the cells that an operation on these kinds gives at the places of some maps
 abbrev pub cells_of : Op → List Kind → List (List Cell) → ℕ → List Cell
-cells_of o kinds maps places = (part_of (outcome_of o (record { kinds = kinds }) (map cell_at maps)) places).cells
+cells_of o kinds maps places = (part_of (outcome_of o (of_kinds kinds) (map cell_at maps)) places).cells
 
 -- the first place of these where it is Over
 abbrev pub over_of : Op → List Kind → List (List Cell) → ℕ → Option ℕ
-over_of o kinds maps places = (part_of (outcome_of o (record { kinds = kinds }) (map cell_at maps)) places).over
+over_of o kinds maps places = (part_of (outcome_of o (of_kinds kinds) (map cell_at maps)) places).over
 
 -- so many whole ones, as a scalar
 abbrev pub whole_scalar : ℕ → Cell
@@ -158,6 +167,7 @@ doubling = record {
   b = from.Input 0;
   c = from.Unused;
   d = from.Unused;
+  file = 0;
   statement = 1;
   number = 1;
   kept = true;
@@ -168,6 +178,7 @@ abbrev pub doubled : Program
 doubled = record {
   inputs = record { file = codes "a.asc"; role = Grid; kind = Scalar } ∷ [];
   initial = doubling ∷ [];
+  dynamic = [];
   outputs = record { file = codes "C"; kind = InitialGrid; value = from.Initial 0; cell_kind = Scalar; statement = 1 } ∷ [];
   area = 0;
   steps = 0;
@@ -175,7 +186,7 @@ doubled = record {
 
 -- what is known of its grid
 abbrev pub over_grid : List Cell → Known
-over_grid cells = record { rows = 1; cols = 2; maps = cells ∷ []; initial = [] }
+over_grid cells = record { rows = 1; cols = 2; maps = cells ∷ []; tables = []; series = []; stacks = []; initial = []; last = [] }
 
 -- the Over of an operation of a statement at a step, in the second column
 abbrev pub over_in_column_two : ℕ → ℕ → ℕ → OverAt
@@ -206,7 +217,8 @@ named name = tree.Name Scalar name
 
 -- a grid of two columns at a step
 abbrev pub scene_over : ℕ → Cell → Cell → Scene
-scene_over step first second = record { rows = 1; cols = 2; step = step; inputs = (first ∷ second ∷ []) ∷ [] }
+scene_over step first second =
+    record { rows = 1; cols = 2; step = step; inputs = (first ∷ second ∷ []) ∷ []; tables = []; series = []; stacks = [] }
 
 -- no name has a map
 abbrev pub unassigned : List ℕ → List Cell
@@ -243,6 +255,204 @@ pub record SectionExamples : Type 0 where
   pub first : map_named (codes "D") (section_value (scene_over 3 (whole_scalar 1) (whole_scalar 9000000000000)) 1 unassigned going_over)
       ≡ Err (over_in_column_two 3 2 2)
 
+-- ---- statements at steps
+
+-- a grid of one cell at a step
+abbrev pub scene_at : ℕ → Scene
+scene_at step = record { rows = 1; cols = 1; step = step; inputs = []; tables = []; series = []; stacks = [] }
+
+-- the number 1
+abbrev pub unit : Tree
+unit = tree.Number Scalar (whole_scalar 1)
+
+-- `initial A = 1; B = 1;`
+abbrev pub beginning : List Statement
+beginning = record { target = codes "A"; value = unit } ∷ record { target = codes "B"; value = unit } ∷ []
+
+-- `dynamic X = B; B = A; A = A + B;`
+abbrev pub each_step : List Statement
+each_step =
+    record { target = codes "X"; value = named (codes "B") }
+    ∷ record { target = codes "B"; value = named (codes "A") }
+    ∷ statement (codes "A") op.Add (named (codes "A")) (named (codes "B"))
+    ∷ []
+
+-- what stands after the section `initial`
+abbrev pub after_beginning : Result After OverAt
+after_beginning = section_value (scene_at 0) 1 unassigned beginning
+
+-- what stands after one more step: the environment before it is what stood there
+abbrev pub after_step : ℕ → Result After OverAt → Result After OverAt
+after_step step before = before >>= λ after. section_value (scene_at step) 3 after.names each_step
+
+-- A name that is read above its assignment has the map of the step before, and at step 1 that of `initial`: X is 1, 1 and 2.
+pub record StepExamples : Type 0 where
+  pub one : map_named (codes "X") (after_step 1 after_beginning) ≡ Ok (whole_scalar 1 ∷ [])
+  pub two : map_named (codes "X") (after_step 2 (after_step 1 after_beginning)) ≡ Ok (whole_scalar 1 ∷ [])
+  pub three : map_named (codes "X") (after_step 3 (after_step 2 (after_step 1 after_beginning))) ≡ Ok (whole_scalar 2 ∷ [])
+
+-- ---- programs with steps
+
+-- an operation on two scalars, which is kept
+abbrev pub kept_operation : Op → Operand → Operand → ℕ → ℕ → Operation
+kept_operation o a b statement number = record {
+  op = o;
+  kind = Scalar;
+  a = a;
+  b = b;
+  c = from.Unused;
+  d = from.Unused;
+  file = 1;
+  statement = statement;
+  number = number;
+  kept = true;
+}
+
+-- a program of these sections over three steps, whose inputs are a map of ids, a series and a stack
+abbrev pub over_steps : List Operation → List Operation → Program
+over_steps initial dynamic = record {
+  inputs =
+      record { file = codes "id.asc"; role = Grid; kind = Nominal }
+      ∷ record { file = codes "r.tss"; role = Series; kind = Scalar }
+      ∷ record { file = codes "rain"; role = Stack; kind = Scalar }
+      ∷ [];
+  initial = initial;
+  dynamic = dynamic;
+  outputs = [];
+  area = 0;
+  steps = 3;
+}
+
+-- the grid of one cell of a stack at a step
+abbrev pub stack_grid : ℕ → Cell → StepMap
+stack_grid step cell = record { step = step; operation = 2; cells = cell ∷ [] }
+
+-- what is known: the id 1, a series of these values at steps 1 to 3, a stack of 5, missing and 7, and the map of `initial`
+abbrev pub over_cell : Cell → Cell → Cell → List StepMap → Known
+over_cell first second third initial = record {
+  rows = 1;
+  cols = 1;
+  maps = (Val (pos 1) ∷ []) ∷ [];
+  tables = [];
+  series =
+      record {
+        kind = Scalar;
+        rows =
+            record { step = 1; cells = first ∷ [] } ∷ record { step = 2; cells = second ∷ [] } ∷ record { step = 3; cells = third ∷ [] } ∷ [];
+      } ∷ [];
+  stacks = stack_grid 1 (whole_scalar 5) ∷ stack_grid 2 Mv ∷ stack_grid 3 (whole_scalar 7) ∷ [];
+  initial = initial;
+  last = [];
+}
+
+-- the map of one cell of an operation of `initial`
+abbrev pub begun_with : ℕ → Cell → StepMap
+begun_with n cell = record { step = 0; operation = n; cells = cell ∷ [] }
+
+-- the cells of the maps of one operation that are told, step by step
+abbrev pub told_cells : ℕ → StageEnd → List (List Cell)
+told_cells n end = map (λ m. m.cells) (filter (λ m. m.operation == n) end.maps)
+
+-- `initial A = 1; B = 1; dynamic X = B; B = A; A = A + B;`
+abbrev pub going_on : Program
+going_on = over_steps
+    (kept_operation op.CopyOf (from.Literal Scalar (whole_scalar 1)) from.Unused 1 1
+    ∷ kept_operation op.CopyOf (from.Literal Scalar (whole_scalar 1)) from.Unused 2 1
+    ∷ [])
+    (kept_operation op.CopyOf (from.Last 1 1) from.Unused 3 1
+    ∷ kept_operation op.CopyOf (from.Last 2 0) from.Unused 4 1
+    ∷ kept_operation op.Add (from.Last 2 0) (from.Now 1) 5 1
+    ∷ [])
+
+-- `initial S = 0; dynamic S = S + timeinputscalar(R, Id);`
+abbrev pub summing : Program
+summing = over_steps (kept_operation op.CopyOf (from.Literal Scalar (whole_scalar 0)) from.Unused 1 1 ∷ [])
+    (kept_operation op.TimeInputScalar (from.Input 0) from.Unused 2 1 ∷ kept_operation op.Add (from.Last 1 0) (from.Now 0) 2 2 ∷ [])
+
+-- `dynamic O = timeinput(P); T = time();`
+abbrev pub reading : Program
+reading = over_steps [] (kept_operation op.CopyOf (from.Stack 2) from.Unused 1 1 ∷ kept_operation op.CopyOf from.Time from.Unused 2 1 ∷ [])
+
+-- what the three steps give
+abbrev pub three_steps : Program → Known → StageEnd
+three_steps program known = stage_of program (span.Steps 1 3) known
+
+-- what spans of steps give
+pub record SpanExamples : Type 0 where
+  -- X is 1, 1 and 2
+  pub before : told_cells 0 (three_steps going_on (over_cell Mv Mv Mv (begun_with 0 (whole_scalar 1) ∷ begun_with 1 (whole_scalar 1) ∷ [])))
+      ≡ (whole_scalar 1 ∷ []) ∷ (whole_scalar 1 ∷ []) ∷ (whole_scalar 2 ∷ []) ∷ []
+  -- over a series of 1, 2 and 4 S is 1, 3 and 7
+  pub summed : told_cells 1 (three_steps summing (over_cell (whole_scalar 1) (whole_scalar 2) (whole_scalar 4) (begun_with 0 (whole_scalar 0) ∷ [])))
+      ≡ (whole_scalar 1 ∷ []) ∷ (whole_scalar 3 ∷ []) ∷ (whole_scalar 7 ∷ []) ∷ []
+  -- over a series of 1 and 9,000,000,000,000 the sum is Over at step 2, and S is told of step 1 alone
+  pub over_from : (three_steps summing (over_cell (whole_scalar 1) (whole_scalar 9000000000000) Mv (begun_with 0 (whole_scalar 0) ∷ []))).over
+      ≡ Some (record { step = 2; statement = 2; operation = 2; row = 1; col = 1 })
+  pub told_before : told_cells 1 (three_steps summing (over_cell (whole_scalar 1) (whole_scalar 9000000000000) Mv (begun_with 0 (whole_scalar 0) ∷ [])))
+      ≡ (whole_scalar 1 ∷ []) ∷ []
+  -- the grids of the stack, and the numbers of the steps
+  pub stacked : told_cells 0 (three_steps reading (over_cell Mv Mv Mv [])) ≡ (whole_scalar 5 ∷ []) ∷ (Mv ∷ []) ∷ (whole_scalar 7 ∷ []) ∷ []
+  pub counted : told_cells 1 (three_steps reading (over_cell Mv Mv Mv []))
+      ≡ (whole_scalar 1 ∷ []) ∷ (whole_scalar 2 ∷ []) ∷ (whole_scalar 3 ∷ []) ∷ []
+
+-- ---- tables and series
+
+-- the table of the lines `[0,10> 1` and `[10,> 2`
+abbrev pub from_ten : TableValue
+from_ten = record {
+  keys = 1;
+  kind = Scalar;
+  rows =
+      record { keys = record { first = pos 0; last = pos 9999999 } ∷ []; result = pos 1000000 }
+      ∷ record { keys = record { first = pos 10000000; last = greatest_number } ∷ []; result = pos 2000000 }
+      ∷ [];
+}
+
+-- the table of the lines `1 2 5` and `1 <,> 6`
+abbrev pub of_two_keys : TableValue
+of_two_keys = record {
+  keys = 2;
+  kind = Nominal;
+  rows =
+      record { keys = record { first = pos 1000000; last = pos 1000000 } ∷ record { first = pos 2000000; last = pos 2000000 } ∷ []; result = pos 5 }
+      ∷ record { keys = record { first = pos 1000000; last = pos 1000000 } ∷ record { first = least_number; last = greatest_number } ∷ []; result = pos 6 }
+      ∷ [];
+}
+
+-- the series of the lines `1 4 8` and `3 2 1e31`
+abbrev pub of_two_rows : SeriesValue
+of_two_rows = record {
+  kind = Scalar;
+  rows =
+      record { step = 1; cells = whole_scalar 4 ∷ whole_scalar 8 ∷ [] } ∷ record { step = 3; cells = whole_scalar 2 ∷ Mv ∷ [] } ∷ [];
+}
+
+-- the cells that a lookup on these kinds gives at the places of some maps
+abbrev pub looked_up : Op → TableValue → List Kind → List (List Cell) → ℕ → List Cell
+looked_up o table kinds maps places =
+    (part_of (outcome_of o (record { kinds = kinds; step = 0; table = table; series = no_series }) (map cell_at maps)) places).cells
+
+-- the cells that the series gives of these ids at a step
+abbrev pub cells_of_step : ℕ → List Cell → ℕ → List Cell
+cells_of_step step ids places =
+    (part_of (outcome_of op.TimeInputScalar (record { kinds = Nominal ∷ []; step = step; table = no_table; series = of_two_rows }) (cell_at ids ∷ []))
+    places).cells
+
+-- what lookups and series give
+pub record FileExamples : Type 0 where
+  -- 10, 9.999999 and -1
+  pub intervals : looked_up op.LookupScalar from_ten (Scalar ∷ []) ((whole_scalar 10 ∷ Val (pos 9999999) ∷ below_zero 1000000 ∷ []) ∷ []) 3
+      ≡ whole_scalar 2 ∷ whole_scalar 1 ∷ Mv ∷ []
+  -- a class is compared as the whole number that it is, the first row that fits counts, and a missing key gives a missing value
+  pub classes : looked_up op.LookupNominal of_two_keys (Nominal ∷ Scalar ∷ [])
+      ((Val (pos 1) ∷ Val (pos 1) ∷ Val (pos 2) ∷ Mv ∷ Val (pos 1) ∷ []) ∷ (whole_scalar 2 ∷ whole_scalar 3 ∷ whole_scalar 2 ∷ whole_scalar 2 ∷ Mv ∷ []) ∷ [])
+      5 ≡ Val (pos 5) ∷ Val (pos 6) ∷ Mv ∷ Mv ∷ Mv ∷ []
+  -- columns count from 1; there is no row for step 2
+  pub columns : cells_of_step 1 (Val (pos 1) ∷ Val (pos 2) ∷ Val (pos 3) ∷ Val (pos 0) ∷ Val (neg_ℤ (pos 1)) ∷ Mv ∷ []) 6
+      ≡ whole_scalar 4 ∷ whole_scalar 8 ∷ Mv ∷ Mv ∷ Mv ∷ Mv ∷ []
+  pub no_row : cells_of_step 2 (Val (pos 1) ∷ []) 1 ≡ Mv ∷ []
+  pub missing_cell : cells_of_step 3 (Val (pos 1) ∷ Val (pos 2) ∷ []) 2 ≡ whole_scalar 2 ∷ Mv ∷ []
+
 -- ---- kinds
 
 -- what the table of operations allows
@@ -255,3 +465,8 @@ pub record KindExamples : Type 0 where
   pub apart : HasKinds (row_of op.IfElse) (Boolean ∷ Nominal ∷ Ordinal ∷ []) Nominal → ⊥
   -- classes have no order
   pub unordered : HasKinds (row_of op.Min) (Nominal ∷ Nominal ∷ []) Nominal → ⊥
+  -- a lookup has 1 to 4 operands behind its table
+  pub two_keys : HasKinds (map_row (row_of op.LookupScalar)) (Nominal ∷ Scalar ∷ []) Scalar
+  pub no_key : HasKinds (map_row (row_of op.LookupScalar)) [] Scalar → ⊥
+  -- ids are classes
+  pub no_ids : HasKinds (map_row (row_of op.TimeInputScalar)) (Scalar ∷ []) Scalar → ⊥

@@ -1,6 +1,6 @@
 -- What holds of all operations, statements and programs.
-use Rattle.std.specs.Prelude.{◌≡◌, ◌≢◌, ◌<◌, ℕ, ◌+◌, ◌*◌, ℤ, pos, ◌+ℤ◌, ◌-ℤ◌, ◌*ℤ◌, ◌≤ℤ◌, ◌<ℤ◌, true, false, ◌⊎◌, ⊤}
-use Rattle.std.specs.Prelude.{List, [], ◌∷◌, ◌++◌, length, slice_get, All, AllPairs, Contains, Result, Ok, Err, IsOk, IfSome}
+use Rattle.std.specs.Prelude.{◌≡◌, ◌≢◌, ◌<◌, ℕ, zero, suc, ◌+◌, ◌*◌, ℤ, pos, ◌+ℤ◌, ◌-ℤ◌, ◌*ℤ◌, ◌≤ℤ◌, ◌<ℤ◌, true, false, ◌⊎◌, ⊤}
+use Rattle.std.specs.Prelude.{List, [], ◌∷◌, ◌++◌, length, slice_get, All, AllPairs, Contains, Option, Some, Result, Ok, Err, IsOk, IfSome}
 use Rattle.text_base.specs.Results.{◌>>=◌}
 use Rattle.cell_values.specs.declared.kind.Kind.{Kind}
 use Rattle.cell_values.specs.declared.cell.Cell.TheVariants.{Mv}
@@ -13,6 +13,8 @@ use Rattle.map_meaning.specs.declared.known.StepMap.{StepMap}
 use Rattle.map_meaning.specs.declared.op.Op.{Op}
 use Rattle.map_meaning.specs.declared.program.Operation.{Operation}
 use Rattle.map_meaning.specs.declared.program.Program.{Program}
+use Rattle.map_meaning.specs.declared.program.Role.{Role}
+use Rattle.map_meaning.specs.declared.program.Role.TheVariants.{Series, Table}
 use Rattle.map_meaning.specs.declared.row.Meant.TheVariants as meant
 use Rattle.map_meaning.specs.declared.row.Row.{Row}
 use Rattle.map_meaning.specs.declared.tree.Statement.{Statement}
@@ -22,11 +24,11 @@ use Rattle.map_meaning.specs.Missing.{spreads_missing}
 use Rattle.map_meaning.specs.Onward.{ComesBefore, Onward, onward}
 use Rattle.map_meaning.specs.Overs.{may_be_over}
 use Rattle.map_meaning.specs.Scenes.{Scene}
-use Rattle.map_meaning.specs.Programs.{IsWellFormed, StandsBefore}
+use Rattle.map_meaning.specs.Programs.{IsWellFormed, StandsBefore, file_role}
 use Rattle.map_meaning.specs.Rules.{Setting, kind_at, operand_at, outcome_of}
 use Rattle.map_meaning.specs.Sections.{After, after_statements}
-use Rattle.map_meaning.specs.Spans.{IsSpan, Knows, stage_of}
-use Rattle.map_meaning.specs.Table.{HasKinds, row_of, table_rows}
+use Rattle.map_meaning.specs.Spans.{HasSeriesKind, HasTableKind, IsSpan, Knows, stage_of}
+use Rattle.map_meaning.specs.Table.{HasKinds, map_row, row_of, table_rows}
 use Rattle.map_meaning.specs.Whole.{whole_above, whole_below}
 
 -- ---- the table
@@ -42,6 +44,12 @@ pub record HaveOneRow : Type 0 where
 
 -- ---- cells
 
+-- what an operation looks its results up in, if it does, has values of the kind
+abbrev pub HoldsKind : Option Role → Setting → Kind → Type 0
+HoldsKind (Some (Table keys)) setting kind = HasTableKind kind setting.table
+HoldsKind (Some Series) setting kind = HasSeriesKind kind setting.series
+HoldsKind _ setting kind = ⊤
+
 -- the cell of an outcome is one of the kind
 abbrev pub LiesIn : Kind → Outcome → Type 0
 LiesIn kind (Ok cell) = IsCell kind cell
@@ -51,10 +59,12 @@ LiesIn kind (Err over) = ⊤
 abbrev pub HaveKindsAt : List Kind → List CellAt → ℕ → Type 0
 HaveKindsAt kinds operands place = (i : ℕ) → i < length kinds → IsCell (kind_at kinds i) (operand_at operands i place)
 
--- where an operation's operands have cells of their kinds at all places of a map, its results are cells of its kind
+-- where an operation's operands have cells of their kinds at all places of a map, and what it looks up is of its kind, its
+-- results are cells of its kind
 abbrev pub LieInTheirKind : Type 0
 LieInTheirKind =
-    (o : Op) (setting : Setting) (kind : Kind) (operands : List CellAt) (places place : ℕ) → HasKinds (row_of o) setting.kinds kind →
+    (o : Op) (setting : Setting) (kind : Kind) (operands : List CellAt) (places place : ℕ) →
+    HasKinds (map_row (row_of o)) setting.kinds kind → HoldsKind (file_role o (length setting.kinds)) setting kind →
     ((other : ℕ) → other < places → HaveKindsAt setting.kinds operands other) → place < places →
     LiesIn kind (outcome_of o setting operands place)
 
@@ -62,7 +72,7 @@ LieInTheirKind =
 abbrev pub StayInRange : Type 0
 StayInRange =
     (o : Op) (setting : Setting) (kind : Kind) (operands : List CellAt) (places place : ℕ) →
-    may_be_over o ≡ false → HasKinds (row_of o) setting.kinds kind →
+    may_be_over o ≡ false → HasKinds (map_row (row_of o)) setting.kinds kind →
     ((other : ℕ) → other < places → HaveKindsAt setting.kinds operands other) → place < places →
     IsOk (outcome_of o setting operands place)
 
@@ -70,7 +80,7 @@ StayInRange =
 abbrev pub SpreadMissing : Type 0
 SpreadMissing =
     (o : Op) (setting : Setting) (operands : List CellAt) (place i : ℕ) →
-    spreads_missing o ≡ true → i < (row_of o).least → operand_at operands i place ≡ Mv →
+    spreads_missing o ≡ true → i < (map_row (row_of o)).least → operand_at operands i place ≡ Mv →
     outcome_of o setting operands place ≡ Ok Mv
 
 -- ---- whole numbers
@@ -140,9 +150,14 @@ TellTheLeastOver =
 
 -- ---- kept maps
 
+-- the operations that are evaluated at a step: those of `initial` at step 0
+abbrev pub operations_at : Program → ℕ → List Operation
+operations_at program zero = program.initial
+operations_at program (suc step) = program.dynamic
+
 -- a kept map has a cell for each place, of the kind of its operation
 abbrev pub IsWholeMap : Program → ℕ → StepMap → Type 0
-IsWholeMap program places kept = IfSome (slice_get program.initial kept.operation) (λ o. IsMapOf places o.kind kept.cells)
+IsWholeMap program places kept = IfSome (slice_get (operations_at program kept.step) kept.operation) (λ o. IsMapOf places o.kind kept.cells)
 
 -- each map that a span gives has all its cells, and they are of its operation's kind
 abbrev pub GiveWholeMaps : Type 0

@@ -20,3 +20,7 @@ most_steps = 100000
 -- how many steps a span may have
 abbrev pub most_block : ℕ
 most_block = 64
+
+-- how many stacks a program may read, and how many it may write
+abbrev pub most_stacks : ℕ
+most_stacks = 64

@@ -1,13 +1,18 @@
 -- The values of the operations on cells, each by its operands' cells at one place. Those of `+`, `-`, `*`, `/`, `idiv`
 -- and `mod` stand with the arithmetic of cells, those of the conversions with the kinds.
-use Rattle.std.specs.Prelude.{ℤ, pos, neg_ℤ, unsigned_abs, int_lt, int_le, Ok}
-use Rattle.std.specs.Prelude.{Bool, true, false, not, ◌&&◌, ◌||◌, if◌then◌else◌}
+use Rattle.std.specs.Prelude.{ℕ, nat_lt, ℤ, pos, neg_ℤ, unsigned_abs, int_lt, int_le, Ok, Option, Some, None}
+use Rattle.std.specs.Prelude.{Bool, true, false, not, ◌&&◌, ◌||◌, if◌then◌else◌, List, [], ◌∷◌, slice_index_or}
 use Rattle.std.specs.Ordering.{int_eq}
+use Rattle.cell_values.specs.declared.kind.Kind.{Kind}
 use Rattle.cell_values.specs.declared.kind.Kind.TheVariants.{Scalar}
 use Rattle.cell_values.specs.declared.cell.Cell.{Cell}
 use Rattle.cell_values.specs.declared.cell.Cell.TheVariants.{Mv, Val}
 use Rattle.cell_values.specs.Kinds.{cell_of_number}
 use Rattle.cell_values.specs.Arithmetic.{at_cells}
+use Rattle.cell_values.specs.Conversion.{scalar_of}
+use Rattle.lookup_table.specs.Form.{TableValue, value_of}
+use Rattle.time_series.specs.Form.{SeriesValue}
+use Rattle.time_series.specs.Values.{cell_in_row, cells_at}
 use Rattle.tile_map.specs.Parts.{Outcome}
 use Rattle.map_meaning.specs.Missing.{at_cell}
 use Rattle.map_meaning.specs.Whole.{whole_below, whole_above, whole_nearest}
@@ -133,3 +138,31 @@ cover_of (Val a) b = Ok (Val a)
 abbrev pub defined_of : Cell → Outcome
 defined_of Mv = Ok (truth false)
 defined_of (Val a) = Ok (truth true)
+
+-- ---- tables and series
+
+-- the number of a key in millionths, as the keys of tables are; none where its cell is missing
+abbrev pub key_number : Kind → Cell → Option ℤ
+key_number kind Mv = None
+key_number kind (Val z) = Some (scalar_of kind z)
+
+-- the number of the key at a place behind the first; one that the table does not have counts as 0
+abbrev pub further_key : TableValue → List Kind → ℕ → Cell → Option ℤ
+further_key table kinds i cell = if nat_lt i table.keys then key_number (slice_index_or kinds i Scalar) cell else Some (pos 0)
+
+-- the value of a table at its keys, of which there are four at most; missing where one of them is
+abbrev pub value_at_keys : TableValue → Option ℤ → Option ℤ → Option ℤ → Option ℤ → Cell
+value_at_keys table None b c d = Mv
+value_at_keys table (Some a) None c d = Mv
+value_at_keys table (Some a) (Some b) None d = Mv
+value_at_keys table (Some a) (Some b) (Some c) None = Mv
+value_at_keys table (Some a) (Some b) (Some c) (Some d) = value_of table (a ∷ b ∷ c ∷ d ∷ [])
+
+-- `lookup..`: the value of the table at the operands, which have these kinds; as many count as the table has keys
+abbrev pub lookup_of : TableValue → List Kind → Cell → Cell → Cell → Cell → Outcome
+lookup_of table kinds a b c d =
+    Ok (value_at_keys table (key_number (slice_index_or kinds 0 Scalar) a) (further_key table kinds 1 b) (further_key table kinds 2 c) (further_key table kinds 3 d))
+
+-- `timeinput..`: the cell of the series in the row of a step and the column of the operand, which count from 1
+abbrev pub timeinput_of : SeriesValue → ℕ → Cell → Outcome
+timeinput_of series step = at_cell (λ id. Ok (cell_in_row (cells_at series.rows step) id))

@@ -1,28 +1,81 @@
 -- Well-formed programs.
-use Rattle.std.specs.Prelude.{◌≡◌, ◌<◌, ◌≤◌, ℕ, ◌+◌, ◌==◌, Bool, true, false, IsTrue, ⊤, ◌⊎◌}
+use Rattle.std.specs.Prelude.{◌≡◌, ◌≢◌, ◌<◌, ◌≤◌, ℕ, ◌+◌, ◌==◌, Bool, true, false, ◌||◌, IsTrue, ⊤, ◌⊎◌}
 use Rattle.std.specs.Prelude.{List, [], ◌∷◌, length, slice_get, All, AllPairs, Option, Some, None, IfSome, option_map}
-use Rattle.std.specs.List.{filter_map, list_all, list_any}
+use Rattle.std.specs.List.{filter, filter_map, list_all, list_any}
 use Rattle.text_base.specs.Words.{is_file_word}
 use Rattle.cell_values.specs.declared.kind.Kind.{Kind}
+use Rattle.cell_values.specs.declared.kind.Kind.TheVariants as kinds
 use Rattle.cell_values.specs.Kinds.{IsCell}
+use Rattle.map_meaning.specs.declared.op.Op.{Op}
+use Rattle.map_meaning.specs.declared.op.Op.TheVariants as op
+use Rattle.map_meaning.specs.declared.program.InputUse.{InputUse}
 use Rattle.map_meaning.specs.declared.program.Operand.{Operand}
-use Rattle.map_meaning.specs.declared.program.Operand.TheVariants.{Unused, Literal, Input, Initial}
+use Rattle.map_meaning.specs.declared.program.Operand.TheVariants.{Unused, Literal, Time, Input, Initial, Now, Last}
+use Rattle.map_meaning.specs.declared.program.Operand.TheVariants as from
 use Rattle.map_meaning.specs.declared.program.Operation.{Operation}
+use Rattle.map_meaning.specs.declared.program.OutputKind.{OutputKind}
+use Rattle.map_meaning.specs.declared.program.OutputKind.TheVariants.{InitialGrid, StackGrid, Sample}
 use Rattle.map_meaning.specs.declared.program.Role.{Role}
-use Rattle.map_meaning.specs.declared.program.Role.TheVariants.{Grid}
+use Rattle.map_meaning.specs.declared.program.Role.TheVariants.{Grid, Stack, Table, Series}
 use Rattle.map_meaning.specs.declared.program.OutputUse.{OutputUse}
 use Rattle.map_meaning.specs.declared.program.Program.{Program}
-use Rattle.map_meaning.specs.Limits.{most_operations, most_statements, most_inputs, most_steps}
-use Rattle.map_meaning.specs.Table.{HasKinds, row_of}
+use Rattle.map_meaning.specs.Limits.{most_operations, most_statements, most_inputs, most_steps, most_stacks}
+use Rattle.map_meaning.specs.Table.{HasKinds, map_row, row_of}
+
+-- ---- roles
+
+-- an input is read once, as a map
+abbrev pub is_grid : Role → Bool
+is_grid Grid = true
+is_grid _ = false
+
+-- an input is a map for each step
+abbrev pub is_stack : Role → Bool
+is_stack Stack = true
+is_stack _ = false
+
+-- an input is a table
+abbrev pub is_table : Role → Bool
+is_table (Table keys) = true
+is_table _ = false
+
+-- an input is a series
+abbrev pub is_series : Role → Bool
+is_series Series = true
+is_series _ = false
+
+-- Tables have 1 to 4 keys, and no table, series or stack has drain directions.
+abbrev pub SuitsRole : Kind → Role → Type 0
+SuitsRole kind Grid = ⊤
+SuitsRole kind Stack = kind ≢ kinds.Ldd
+SuitsRole kind (Table keys) = (1 ≤ keys) × (keys ≤ 4) × (kind ≢ kinds.Ldd)
+SuitsRole kind Series = kind ≢ kinds.Ldd
+
+-- the input with this number has this role
+pub record IsInput (program : Program) (asked : Role) (n : ℕ) : Type 0 where
+  pub within : n < length program.inputs
+  pub role : IfSome (slice_get program.inputs n) (λ input. input.role ≡ asked)
 
 -- ---- kinds
+
+-- the kind of an input, if it is there
+abbrev pub input_kind : Program → ℕ → Option Kind
+input_kind program n = option_map (λ input. input.kind) (slice_get program.inputs n)
+
+-- the kind of an operation of a section, if it is there
+abbrev pub operation_kind : List Operation → ℕ → Option Kind
+operation_kind operations n = option_map (λ o. o.kind) (slice_get operations n)
 
 -- the kind of an operand, where it is one
 abbrev pub operand_kind : Program → Operand → Option Kind
 operand_kind program Unused = None
 operand_kind program (Literal kind cell) = Some kind
-operand_kind program (Input n) = option_map (λ input. input.kind) (slice_get program.inputs n)
-operand_kind program (Initial n) = option_map (λ o. o.kind) (slice_get program.initial n)
+operand_kind program Time = Some kinds.Scalar
+operand_kind program (Input n) = input_kind program n
+operand_kind program (from.Stack n) = input_kind program n
+operand_kind program (Initial n) = operation_kind program.initial n
+operand_kind program (Now n) = operation_kind program.dynamic n
+operand_kind program (Last dynamic initial) = operation_kind program.dynamic dynamic
 
 -- the operands of an operation
 abbrev pub operands_of : Operation → List Operand
@@ -32,7 +85,7 @@ operands_of o = o.a ∷ o.b ∷ o.c ∷ o.d ∷ []
 abbrev pub kinds_of : Program → Operation → List Kind
 kinds_of program o = filter_map (operand_kind program) (operands_of o)
 
--- ---- one operation
+-- ---- what an operation reads
 
 -- there is no such operand
 abbrev pub is_unused : Operand → Bool
@@ -45,68 +98,186 @@ are_used_first [] = true
 are_used_first (Unused ∷ more) = list_all is_unused more
 are_used_first (operand ∷ more) = are_used_first more
 
--- the input with this number has this role
-pub record IsInput (program : Program) (asked : Role) (n : ℕ) : Type 0 where
-  pub within : n < length program.inputs
-  pub role : IfSome (slice_get program.inputs n) (λ input. input.role ≡ asked)
-
 -- the operand may be one of the operation of `initial` with this number
 abbrev pub IsBelow : Program → ℕ → Operand → Type 0
 IsBelow program n Unused = ⊤
 IsBelow program n (Literal kind cell) = IsCell kind cell
 IsBelow program n (Input k) = IsInput program Grid k
 IsBelow program n (Initial k) = k < n
+IsBelow program n _ = ⊥
 
--- the operand is the map of the operation of `initial` with this number
+-- what a name had before: an operation of `dynamic` and one of `initial`, of one kind
+pub record AreOneName (program : Program) (dynamic initial : ℕ) : Type 0 where
+  pub of_dynamic : dynamic < length program.dynamic
+  pub of_initial : initial < length program.initial
+  pub kind : operation_kind program.dynamic dynamic ≡ operation_kind program.initial initial
+
+-- the operand may be one of the operation of `dynamic` with this number
+abbrev pub IsBelowNow : Program → ℕ → Operand → Type 0
+IsBelowNow program n Unused = ⊤
+IsBelowNow program n (Literal kind cell) = IsCell kind cell
+IsBelowNow program n Time = ⊤
+IsBelowNow program n (Input k) = IsInput program Grid k
+IsBelowNow program n (from.Stack k) = IsInput program Stack k
+IsBelowNow program n (Initial k) = k < length program.initial
+IsBelowNow program n (Now k) = k < n
+IsBelowNow program n (Last dynamic initial) = AreOneName program dynamic initial
+
+-- the role of the input that an operation on so many operands looks its results up in, if it does
+abbrev pub file_role : Op → ℕ → Option Role
+file_role op.LookupBoolean keys = Some (Table keys)
+file_role op.LookupNominal keys = Some (Table keys)
+file_role op.LookupOrdinal keys = Some (Table keys)
+file_role op.LookupScalar keys = Some (Table keys)
+file_role op.LookupDirectional keys = Some (Table keys)
+file_role op.TimeInputBoolean keys = Some Series
+file_role op.TimeInputNominal keys = Some Series
+file_role op.TimeInputOrdinal keys = Some Series
+file_role op.TimeInputScalar keys = Some Series
+file_role op.TimeInputDirectional keys = Some Series
+file_role _ keys = None
+
+-- the input with this number has this role and this kind
+pub record IsFile (program : Program) (asked : Role) (kind : Kind) (n : ℕ) : Type 0 where
+  pub input : IsInput program asked n
+  pub kind_is : input_kind program n ≡ Some kind
+
+-- the input with this number has the role and the kind, where there is a role
+abbrev pub IsFileOf : Program → Option Role → Kind → ℕ → Type 0
+IsFileOf program None kind n = ⊤
+IsFileOf program (Some asked) kind n = IsFile program asked kind n
+
+-- An operation whose operands are such: those that it has come first, its operands and its map have kinds of its row of the
+-- table, its file is one for it, and it is kept where it is to be.
+pub record IsOperationOf (program : Program) (IsRead : Operand → Type 0) (keep : Bool) (o : Operation) : Type 0 where
+  pub a : IsRead o.a
+  pub b : IsRead o.b
+  pub c : IsRead o.c
+  pub d : IsRead o.d
+  pub used : are_used_first (operands_of o) ≡ true
+  pub kinds : HasKinds (map_row (row_of o.op)) (kinds_of program o) o.kind
+  pub file : IsFileOf program (file_role o.op (length (kinds_of program o))) o.kind o.file
+  pub kept : o.kept ≡ keep
+
+-- ---- what is kept
+
+-- the operand may be the map of the operation of `initial` with this number
 abbrev pub is_initial : ℕ → Operand → Bool
 is_initial n (Initial k) = k == n
+is_initial n (Last dynamic k) = k == n
 is_initial n _ = false
+
+-- the operand is the map of the operation of `dynamic` with this number at the same step
+abbrev pub is_now : ℕ → Operand → Bool
+is_now n (Now k) = k == n
+is_now n _ = false
+
+-- the operand may be the map of the operation of `dynamic` with this number at the step before
+abbrev pub is_last : ℕ → Operand → Bool
+is_last n (Last k initial) = k == n
+is_last n _ = false
+
+-- an operation of `dynamic` has an operand that passes a test
+abbrev pub is_read_in_steps : Program → (Operand → Bool) → Bool
+is_read_in_steps program test = list_any (λ o. list_any test (operands_of o)) program.dynamic
+
+-- an output writes an operand that passes a test
+abbrev pub is_output : Program → (Operand → Bool) → Bool
+is_output program test = list_any (λ output. test output.value) program.outputs
 
 -- an output writes the map of the operation of `initial` with this number
 abbrev pub is_written : Program → ℕ → Bool
-is_written program n = list_any (λ output. is_initial n output.value) program.outputs
+is_written program n = is_output program (is_initial n)
 
--- An operation of `initial` with this number: it reads inputs, numbers and operations before it, its operands and its
--- map have kinds of its row of the table, and it is kept exactly where an output writes its map.
-pub record IsOperation (program : Program) (n : ℕ) (o : Operation) : Type 0 where
-  pub a : IsBelow program n o.a
-  pub b : IsBelow program n o.b
-  pub c : IsBelow program n o.c
-  pub d : IsBelow program n o.d
-  pub used : are_used_first (operands_of o) ≡ true
-  pub kinds : HasKinds (row_of o.op) (kinds_of program o) o.kind
-  pub kept : o.kept ≡ is_written program n
+-- An operation of `initial` is kept where a step reads its map, or an output writes it.
+abbrev pub is_kept : Program → ℕ → Bool
+is_kept program n = is_read_in_steps program (is_initial n) || is_written program n
+
+-- a step reads the map that the operation of `dynamic` with this number had at the step before
+abbrev pub is_carried : Program → ℕ → Bool
+is_carried program n = is_read_in_steps program (is_last n)
+
+-- An operation of `dynamic` is kept where the next step reads its map, or an output writes it, at its own step or the next.
+abbrev pub is_kept_in_steps : Program → ℕ → Bool
+is_kept_in_steps program n = is_carried program n || is_output program (λ operand. is_now n operand || is_last n operand)
+
+-- ---- the operations of a section
+
+-- An operation of `initial` with this number: it reads inputs, numbers and operations before it.
+abbrev pub IsOperation : Program → ℕ → Operation → Type 0
+IsOperation program n o = IsOperationOf program (IsBelow program n) (is_kept program n) o
+
+-- An operation of `dynamic` with this number: it reads also the step, stacks, operations of `initial`, and those of the step
+-- before.
+abbrev pub IsStepOperation : Program → ℕ → Operation → Type 0
+IsStepOperation program n o = IsOperationOf program (IsBelowNow program n) (is_kept_in_steps program n) o
 
 -- operations of `initial` whose numbers count from n
 abbrev pub AreOperations : Program → ℕ → List Operation → Type 0
 AreOperations program n [] = ⊤
 AreOperations program n (o ∷ more) = IsOperation program n o × AreOperations program (n + 1) more
 
+-- operations of `dynamic` whose numbers count from n
+abbrev pub AreStepOperations : Program → ℕ → List Operation → Type 0
+AreStepOperations program n [] = ⊤
+AreStepOperations program n (o ∷ more) = IsStepOperation program n o × AreStepOperations program (n + 1) more
+
 -- the first stands in an earlier statement, or in the same one with a lower number
 abbrev pub StandsBefore : Operation → Operation → Type 0
 StandsBefore o p = (o.statement < p.statement) ⊎ ((o.statement ≡ p.statement) × (o.number < p.number))
 
--- ---- inputs and outputs
+-- ---- outputs
 
--- an output writes the map of an operation of `initial`, with its kind, as a file
+-- ids are booleans or classes
+abbrev pub is_id_kind : Kind → Bool
+is_id_kind kinds.Boolean = true
+is_id_kind kinds.Nominal = true
+is_id_kind kinds.Ordinal = true
+is_id_kind _ = false
+
+-- the input with this number is a map of ids
+pub record IsIds (program : Program) (n : ℕ) : Type 0 where
+  pub input : IsInput program Grid n
+  pub kind : IfSome (input_kind program n) (λ kind. is_id_kind kind ≡ true)
+
+-- The operand is what such an output writes: the map of an operation of `initial`, or that of an operation of `dynamic`; a
+-- time series has also what a step reads.
+abbrev pub IsWritten : Program → OutputKind → Operand → Type 0
+IsWritten program InitialGrid value = (n : ℕ) × (value ≡ Initial n) × (n < length program.initial)
+IsWritten program StackGrid value = (n : ℕ) × (value ≡ Now n) × (n < length program.dynamic)
+IsWritten program (Sample ids) value = IsIds program ids × IsBelowNow program (length program.dynamic) value
+
+-- an output of a program: what it writes has its kind
 pub record IsOutput (program : Program) (output : OutputUse) : Type 0 where
-  pub value : (n : ℕ) × (output.value ≡ Initial n) × (n < length program.initial)
+  pub value : IsWritten program output.kind output.value
   pub kind : operand_kind program output.value ≡ Some output.cell_kind
   pub file : IsTrue (is_file_word output.file)
   pub statement : output.statement ≤ most_statements
+
+-- an output is written as a stack
+abbrev pub is_stack_grid : OutputKind → Bool
+is_stack_grid StackGrid = true
+is_stack_grid _ = false
 
 -- ---- the whole
 
 -- What holds of each program that is handed in.
 pub record IsWellFormed (program : Program) : Type 0 where
   pub files : All (λ input. IsTrue (is_file_word input.file)) program.inputs
+  pub roles : All (λ input. SuitsRole input.kind input.role) program.inputs
   pub area : IsInput program Grid program.area
   pub operations : AreOperations program 0 program.initial
+  pub step_operations : AreStepOperations program 0 program.dynamic
   pub order : AllPairs StandsBefore program.initial
+  pub step_order : AllPairs StandsBefore program.dynamic
   pub outputs : All (IsOutput program) program.outputs
   pub reports : AllPairs (λ x y. x.statement < y.statement) program.outputs
   pub few_inputs : length program.inputs ≤ most_inputs
   pub few_operations : length program.initial ≤ most_operations
+  pub few_step_operations : length program.dynamic ≤ most_operations
   pub few_statements : All (λ o. o.statement ≤ most_statements) program.initial
+  pub few_step_statements : All (λ o. o.statement ≤ most_statements) program.dynamic
   pub few_outputs : length program.outputs ≤ most_statements
+  pub few_stacks : length (filter (λ input. is_stack input.role) program.inputs) ≤ most_stacks
+  pub few_stack_outputs : length (filter (λ output. is_stack_grid output.kind) program.outputs) ≤ most_stacks
   pub few_steps : program.steps ≤ most_steps

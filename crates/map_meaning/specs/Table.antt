@@ -1,5 +1,5 @@
 -- The table of operations: the row of an operation, and the kinds that it allows.
-use Rattle.std.specs.Prelude.{◌≡◌, ℕ, ◌<◌, nat_le, nat_lt, ◌==◌, Bool, true, false, ◌&&◌, if◌then◌else◌, List, length, slice_index_or}
+use Rattle.std.specs.Prelude.{◌≡◌, ℕ, ◌-◌, ◌<◌, nat_le, nat_lt, ◌==◌, Bool, true, false, ◌&&◌, if◌then◌else◌, List, length, slice_index_or}
 use Rattle.cell_values.specs.declared.kind.Kind.{Kind}
 use Rattle.cell_values.specs.declared.kind.Kind.TheVariants.{Boolean, Nominal, Ordinal, Scalar, Directional, Ldd}
 use Rattle.map_meaning.specs.declared.op.Op.{Op}
@@ -75,6 +75,37 @@ row_of op.ToNominal = line 28
 row_of op.ToOrdinal = line 29
 row_of op.ToScalar = line 30
 row_of op.ToDirectional = line 31
+row_of op.LookupBoolean = line 32
+row_of op.LookupNominal = line 33
+row_of op.LookupOrdinal = line 34
+row_of op.LookupScalar = line 35
+row_of op.LookupDirectional = line 36
+row_of op.TimeInputBoolean = line 37
+row_of op.TimeInputNominal = line 38
+row_of op.TimeInputOrdinal = line 39
+row_of op.TimeInputScalar = line 40
+row_of op.TimeInputDirectional = line 41
+
+-- the name of a table or of a series is asked, and no map
+abbrev pub is_file : Ask → Bool
+is_file (ask.Table kind) = true
+is_file (ask.Series kind) = true
+is_file _ = false
+
+-- what a row asks of the operands that are maps: those behind the name of a table or of a series
+abbrev pub map_row : Row → Row
+map_row row =
+    if is_file row.first then record {
+      word = row.word;
+      meant = row.meant;
+      first = row.second;
+      second = row.further;
+      further = row.further;
+      least = row.least - 1;
+      most = row.most - 1;
+      gives = row.gives;
+      stands = row.stands;
+    } else row
 
 -- what the operand at this place is asked
 abbrev pub ask_at : Row → ℕ → Ask

@@ -1,4 +1,5 @@
 use crate::map::Map;
+use crate::shared::{SharedSeries, SharedTable};
 use sqlite_items::Items;
 
 /// The operations that are evaluated together.
@@ -10,6 +11,13 @@ pub enum Span {
         first: u32,
         /// The number behind that of the last one.
         end: u32,
+    },
+    /// The operations of `dynamic` at each step from `first` to `last`.
+    Steps {
+        /// The first step.
+        first: u32,
+        /// The last step.
+        last: u32,
     },
 }
 
@@ -33,8 +41,16 @@ pub struct Known {
     pub cols: u32,
     /// The maps of the inputs that are grids, in the order of the inputs.
     pub maps: Items<Map>,
+    /// The inputs that are tables, in the order of the inputs.
+    pub tables: Items<SharedTable>,
+    /// The inputs that are series, in the order of the inputs.
+    pub series: Items<SharedSeries>,
+    /// The grids of the inputs that are stacks, at the steps of the span; their operation is the number of the input.
+    pub stacks: Items<StepMap>,
     /// The kept maps of the stages of `initial` before the span, by ascending numbers of operations.
     pub initial: Items<StepMap>,
+    /// The kept maps of `dynamic` of the step before the span, by ascending numbers of operations.
+    pub last: Items<StepMap>,
 }
 
 /// The first result that is out of the range of its kind.

@@ -1,6 +1,6 @@
 //! What holds of every model, in the subject's words.
 
-ghost use Rattle.map_meaning.specs.Examples.{CellExamples, KindExamples, ProgramExamples, SectionExamples};
+ghost use Rattle.map_meaning.specs.Examples.{CellExamples, FileExamples, KindExamples, ProgramExamples, SectionExamples, SpanExamples, StepExamples};
 ghost use Rattle.map_meaning.specs.Laws.{AreNearWhole, ChangeTheirTargets, GiveWholeMaps, HaveOneRow, LieInTheirKind, OperationsGoOn, SectionsGoOn, SpreadMissing, StayInRange, TellTheLeastOver};
 
 /// Worked examples come out as they were worked out by hand.
@@ -9,6 +9,9 @@ pub fn worked_examples_come_out()
     ensures kinds { KindExamples }
     ensures programs { ProgramExamples }
     ensures sections { SectionExamples }
+    ensures files { FileExamples }
+    ensures steps { StepExamples }
+    ensures spans { SpanExamples }
 {}
 
 /// Each operation has one row of the table of operations.

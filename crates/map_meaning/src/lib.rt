@@ -13,6 +13,7 @@ mod op;
 mod program;
 mod row;
 mod runner;
+mod shared;
 mod table;
 mod tree;
 
@@ -27,6 +28,7 @@ pub use op::Op;
 pub use program::{InputUse, Operand, Operation, OutputKind, OutputUse, Program, Role};
 pub use row::{Ask, Given, Kinds, Meant, Row, Stands};
 pub use runner::BlockRunner;
+pub use shared::{SharedSeries, SharedTable};
 pub use table::{COPY, MANY_OPERANDS, OPERATIONS, rows};
 pub use tile_map::{Arg, Part};
 pub use tree::{Statement, Tree};

@@ -67,4 +67,24 @@ pub enum Op {
     ToScalar,
     /// `directional`.
     ToDirectional,
+    /// `lookupboolean`.
+    LookupBoolean,
+    /// `lookupnominal`.
+    LookupNominal,
+    /// `lookupordinal`.
+    LookupOrdinal,
+    /// `lookupscalar`.
+    LookupScalar,
+    /// `lookupdirectional`.
+    LookupDirectional,
+    /// `timeinputboolean`.
+    TimeInputBoolean,
+    /// `timeinputnominal`.
+    TimeInputNominal,
+    /// `timeinputordinal`.
+    TimeInputOrdinal,
+    /// `timeinputscalar`.
+    TimeInputScalar,
+    /// `timeinputdirectional`.
+    TimeInputDirectional,
 }

@@ -9,10 +9,23 @@ pub enum Operand {
     Unused,
     /// One cell of this kind at all places.
     Literal(Kind, Cell),
+    /// The number of the step, as a scalar.
+    Time,
     /// The grid of the input with this number.
     Input(u32),
+    /// The grid of the stack that is the input with this number, at the step.
+    Stack(u32),
     /// The map of the operation of `initial` with this number.
     Initial(u32),
+    /// The map of the operation of `dynamic` with this number, at the same step.
+    Now(u32),
+    /// What a name has at the end of the step before.
+    Last {
+        /// The number of the operation of `dynamic` whose map it is behind step 1.
+        dynamic: u32,
+        /// The number of the operation of `initial` whose map it is at step 1.
+        initial: u32,
+    },
 }
 
 /// One operation over whole maps. Its number is its place in the list of its section, counted from 0.
@@ -30,6 +43,8 @@ pub struct Operation {
     pub c: Operand,
     /// The fourth operand.
     pub d: Operand,
+    /// The number of the input that is its table or its series; it counts for lookups and series alone.
+    pub file: u32,
     /// The statement that it belongs to, counted from 1.
     pub statement: u32,
     /// Its number among the operations of that statement, counted from 1 in post-order.
@@ -43,6 +58,15 @@ pub struct Operation {
 pub enum Role {
     /// A map that is read once.
     Grid,
+    /// A map for each step; its file is the prefix of their names.
+    Stack,
+    /// A lookup table.
+    Table {
+        /// How many keys it has.
+        keys: u32,
+    },
+    /// A time series.
+    Series,
 }
 
 /// An input of a program.
@@ -61,6 +85,13 @@ pub struct InputUse {
 pub enum OutputKind {
     /// One grid, after the section `initial`.
     InitialGrid,
+    /// A grid at each step; its file is the prefix of their names.
+    StackGrid,
+    /// A time series with a row for each step.
+    Sample {
+        /// The number of the input that is the map of the columns' ids.
+        ids: u32,
+    },
 }
 
 /// An output of a program.
@@ -85,6 +116,8 @@ pub struct Program {
     pub inputs: Items<InputUse>,
     /// The operations of the section `initial`, in the order of their evaluation.
     pub initial: Items<Operation>,
+    /// The operations of the section `dynamic`, in the order of their evaluation at each step.
+    pub dynamic: Items<Operation>,
     /// The outputs, in the order of their statements.
     pub outputs: Items<OutputUse>,
     /// The number of the input that is the area map.

@@ -66,6 +66,12 @@ pub enum Stands {
 pub enum Meant {
     /// An operation over maps.
     Op(Op),
+    /// The number of the step.
+    Step,
+    /// The grid of a stack at the step.
+    Stack,
+    /// A time series that is written.
+    Sample,
     /// Something of the language that programs do not have yet.
     Unbuilt,
 }

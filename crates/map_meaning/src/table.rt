@@ -455,7 +455,7 @@ pub static OPERATIONS: [Row; 68] = [
     },
     Row {
         word: *b"lookupboolean       ",
-        meant: Meant::Unbuilt,
+        meant: Meant::Op(Op::LookupBoolean),
         first: Ask::Table(Kind::Boolean),
         second: Ask::One(MAPS),
         further: Ask::One(MAPS),
@@ -466,7 +466,7 @@ pub static OPERATIONS: [Row; 68] = [
     },
     Row {
         word: *b"lookupnominal       ",
-        meant: Meant::Unbuilt,
+        meant: Meant::Op(Op::LookupNominal),
         first: Ask::Table(Kind::Nominal),
         second: Ask::One(MAPS),
         further: Ask::One(MAPS),
@@ -477,7 +477,7 @@ pub static OPERATIONS: [Row; 68] = [
     },
     Row {
         word: *b"lookupordinal       ",
-        meant: Meant::Unbuilt,
+        meant: Meant::Op(Op::LookupOrdinal),
         first: Ask::Table(Kind::Ordinal),
         second: Ask::One(MAPS),
         further: Ask::One(MAPS),
@@ -488,7 +488,7 @@ pub static OPERATIONS: [Row; 68] = [
     },
     Row {
         word: *b"lookupscalar        ",
-        meant: Meant::Unbuilt,
+        meant: Meant::Op(Op::LookupScalar),
         first: Ask::Table(Kind::Scalar),
         second: Ask::One(MAPS),
         further: Ask::One(MAPS),
@@ -499,7 +499,7 @@ pub static OPERATIONS: [Row; 68] = [
     },
     Row {
         word: *b"lookupdirectional   ",
-        meant: Meant::Unbuilt,
+        meant: Meant::Op(Op::LookupDirectional),
         first: Ask::Table(Kind::Directional),
         second: Ask::One(MAPS),
         further: Ask::One(MAPS),
@@ -510,7 +510,7 @@ pub static OPERATIONS: [Row; 68] = [
     },
     Row {
         word: *b"timeinputboolean    ",
-        meant: Meant::Unbuilt,
+        meant: Meant::Op(Op::TimeInputBoolean),
         first: Ask::Series(Kind::Boolean),
         second: Ask::One(CLASSES),
         further: Ask::One(CLASSES),
@@ -521,7 +521,7 @@ pub static OPERATIONS: [Row; 68] = [
     },
     Row {
         word: *b"timeinputnominal    ",
-        meant: Meant::Unbuilt,
+        meant: Meant::Op(Op::TimeInputNominal),
         first: Ask::Series(Kind::Nominal),
         second: Ask::One(CLASSES),
         further: Ask::One(CLASSES),
@@ -532,7 +532,7 @@ pub static OPERATIONS: [Row; 68] = [
     },
     Row {
         word: *b"timeinputordinal    ",
-        meant: Meant::Unbuilt,
+        meant: Meant::Op(Op::TimeInputOrdinal),
         first: Ask::Series(Kind::Ordinal),
         second: Ask::One(CLASSES),
         further: Ask::One(CLASSES),
@@ -543,7 +543,7 @@ pub static OPERATIONS: [Row; 68] = [
     },
     Row {
         word: *b"timeinputscalar     ",
-        meant: Meant::Unbuilt,
+        meant: Meant::Op(Op::TimeInputScalar),
         first: Ask::Series(Kind::Scalar),
         second: Ask::One(CLASSES),
         further: Ask::One(CLASSES),
@@ -554,7 +554,7 @@ pub static OPERATIONS: [Row; 68] = [
     },
     Row {
         word: *b"timeinputdirectional",
-        meant: Meant::Unbuilt,
+        meant: Meant::Op(Op::TimeInputDirectional),
         first: Ask::Series(Kind::Directional),
         second: Ask::One(CLASSES),
         further: Ask::One(CLASSES),
@@ -565,7 +565,7 @@ pub static OPERATIONS: [Row; 68] = [
     },
     Row {
         word: *b"timeinput           ",
-        meant: Meant::Unbuilt,
+        meant: Meant::Stack,
         first: Ask::Stack,
         second: Ask::Stack,
         further: Ask::Stack,
@@ -576,7 +576,7 @@ pub static OPERATIONS: [Row; 68] = [
     },
     Row {
         word: *b"time                ",
-        meant: Meant::Unbuilt,
+        meant: Meant::Step,
         first: SCALAR,
         second: SCALAR,
         further: SCALAR,
@@ -587,7 +587,7 @@ pub static OPERATIONS: [Row; 68] = [
     },
     Row {
         word: *b"timeoutput          ",
-        meant: Meant::Unbuilt,
+        meant: Meant::Sample,
         first: Ask::One(CLASSES),
         second: Ask::One(MAPS),
         further: Ask::One(MAPS),

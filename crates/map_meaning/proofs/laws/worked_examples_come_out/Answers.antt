@@ -16,7 +16,7 @@ use Rattle.map_meaning.specs.Scenes.{Scene}
 use Rattle.map_meaning.specs.Sections.{After, after_statements, assigned}
 use Rattle.map_meaning.specs.Rules.{rule_of, kind_at}
 use Rattle.map_meaning.specs.Spans.{stage_of}
-use Rattle.map_meaning.specs.Table.{HasKinds, allows, ask_at, common_kind, row_of}
+use Rattle.map_meaning.specs.Table.{HasKinds, allows, ask_at, common_kind, map_row, row_of}
 use Rattle.map_meaning.specs.Trees.{TreeMeaning, meaning_of, meaning_level}
 use Rattle.map_meaning.proofs.Callers.{after_statements-map, after_statements-over, meaning_of-Call, meaning_of-Input, meaning_of-Name}
 use Rattle.map_meaning.proofs.laws.worked_examples_come_out.Goals as goal
@@ -101,8 +101,24 @@ unordered : HasKinds (row_of op.Min) (Nominal ∷ Nominal ∷ []) Nominal → �
 unfolding row_of
 unordered h = let e : false ≡ true = h.each 0 (omega arith) in cc
 
+two_keys : HasKinds (map_row (row_of op.LookupScalar)) (Nominal ∷ Scalar ∷ []) Scalar
+unfolding row_of
+two_keys = record {
+  count = refl;
+  each = let Q : ℕ → Type 0 = λ i. allows (common_kind (map_row (row_of op.LookupScalar)) (Nominal ∷ Scalar ∷ [])) (ask_at (map_row (row_of op.LookupScalar)) i) (kind_at (Nominal ∷ Scalar ∷ []) i) ≡ true in two_places Q refl refl;
+  gives = refl;
+}
+
+no_key : HasKinds (map_row (row_of op.LookupScalar)) [] Scalar → ⊥
+unfolding row_of
+no_key h = let e : false ≡ true = h.count in cc
+
+no_ids : HasKinds (map_row (row_of op.TimeInputScalar)) (Scalar ∷ []) Scalar → ⊥
+unfolding row_of
+no_ids h = let e : false ≡ true = h.each 0 (omega arith) in cc
+
 pub returns-clause-kinds : goal.returns-clause-kinds
-returns-clause-kinds c = record { chosen = chosen; least = least; apart = apart; unordered = unordered }
+returns-clause-kinds c = record { chosen = chosen; least = least; apart = apart; unordered = unordered; two_keys = two_keys; no_key = no_key; no_ids = no_ids }
 
 pub returns-clause-programs : goal.returns-clause-programs
 unfolding stage_of operation_part rule_of
@@ -179,3 +195,11 @@ over =
 
 pub returns-clause-sections : goal.returns-clause-sections
 returns-clause-sections c = record { last = ap (map_named (codes "C")) ended; above = ap (map_named (codes "D")) ended; first = ap (map_named (codes "D")) over }
+
+pub returns-clause-files : goal.returns-clause-files
+unfolding rule_of
+returns-clause-files c = record { intervals = refl; classes = refl; columns = refl; no_row = refl; missing_cell = refl }
+
+pub returns-clause-spans : goal.returns-clause-spans
+unfolding stage_of operation_part rule_of
+returns-clause-spans c = record { before = refl; summed = refl; over_from = refl; told_before = refl; stacked = refl; counted = refl }
