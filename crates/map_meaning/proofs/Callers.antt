@@ -1,5 +1,5 @@
 -- What the crates above cite.
-use Rattle.std.proofs.Common.{◌≡◌, ℕ, ◌+◌, refl, true, List, [], ◌∷◌, ◌++◌, length, map, sym, ◌∙◌, ap, Ok, Err, Result, arith}
+use Rattle.std.proofs.Common.{◌≡◌, ℕ, ◌+◌, refl, true, cond, List, [], ◌∷◌, ◌++◌, length, map, sym, ◌∙◌, ap, Ok, Err, Result, arith}
 use Rattle.std.specs.Prelude.{All}
 use Rattle.text_base.specs.Results.{◌>>=◌}
 use Rattle.cell_values.specs.declared.kind.Kind.{Kind}
@@ -13,7 +13,7 @@ use Rattle.map_meaning.specs.declared.program.Program.{Program}
 use Rattle.map_meaning.specs.declared.tree.Statement.{Statement}
 use Rattle.map_meaning.specs.declared.tree.Tree.{Tree}
 use Rattle.map_meaning.specs.declared.tree.Tree.TheVariants as tree
-use Rattle.map_meaning.specs.declared.tree.Tree.TheVariants.{rolls-Call, rolls-Input, rolls-Name, rolls-Number}
+use Rattle.map_meaning.specs.declared.tree.Tree.TheVariants.{rolls-Call, rolls-Input, rolls-LookUp, rolls-Name, rolls-Number, rolls-Stack, rolls-Time}
 use Rattle.map_meaning.specs.declared.tree.Tree.TheFolds.{fold-roll-Tree}
 use Rattle.map_meaning.specs.declared.tree.Tree.TheOpen.{Tree-F}
 use Rattle.map_meaning.specs.Evaluation.{Done, operation_value, operation_values, with_map}
@@ -21,7 +21,10 @@ use Rattle.map_meaning.specs.Maps.{WholeMap}
 use Rattle.map_meaning.specs.Scenes.{Scene}
 use Rattle.map_meaning.specs.Sections.{After, after_statements, assigned}
 use Rattle.map_meaning.specs.Laws.{IsItsRow}
-use Rattle.map_meaning.specs.Table.{is_kind, table_rows}
+use Rattle.map_meaning.specs.declared.row.Ask.{Ask}
+use Rattle.map_meaning.specs.declared.row.Ask.TheVariants as ask
+use Rattle.map_meaning.specs.declared.row.Row.{Row}
+use Rattle.map_meaning.specs.Table.{allows, behind_file, is_file, is_kind, map_row, table_rows}
 use Rattle.map_meaning.proofs.RowLaws as rows
 use Rattle.map_meaning.specs.Trees.{TreeMeaning, meaning_of, meaning_level, value_of_tree}
 
@@ -46,6 +49,21 @@ meaning_of-Name kind name = ap meaning_of (sym (rolls-Name kind name)) ∙ fold-
 pub meaning_of-Call : (kind : Kind) (op : Op) (operands : List Tree) → meaning_of (tree.Call kind op operands) ≡ meaning_level (Tree-F.Call kind op (map meaning_of operands))
 unfolding meaning_of
 meaning_of-Call kind op operands = ap meaning_of (sym (rolls-Call kind op operands)) ∙ fold-roll-Tree TreeMeaning meaning_level (Tree-F.Call kind op operands)
+
+-- the number of the step
+pub meaning_of-Time : meaning_of tree.Time ≡ meaning_level Tree-F.Time
+unfolding meaning_of
+meaning_of-Time = ap meaning_of (sym rolls-Time) ∙ fold-roll-Tree TreeMeaning meaning_level Tree-F.Time
+
+-- a stack
+pub meaning_of-Stack : (kind : Kind) (input : ℕ) → meaning_of (tree.Stack kind input) ≡ meaning_level (Tree-F.Stack kind input)
+unfolding meaning_of
+meaning_of-Stack kind input = ap meaning_of (sym (rolls-Stack kind input)) ∙ fold-roll-Tree TreeMeaning meaning_level (Tree-F.Stack kind input)
+
+-- an operation that looks its results up
+pub meaning_of-LookUp : (kind : Kind) (op : Op) (file : ℕ) (operands : List Tree) → meaning_of (tree.LookUp kind op file operands) ≡ meaning_level (Tree-F.LookUp kind op file (map meaning_of operands))
+unfolding meaning_of
+meaning_of-LookUp kind op file operands = ap meaning_of (sym (rolls-LookUp kind op file operands)) ∙ fold-roll-Tree TreeMeaning meaning_level (Tree-F.LookUp kind op file operands)
 
 -- ---- a section, one statement at a time
 
@@ -111,6 +129,19 @@ same_kind Ldd Ordinal h = absurd (cc)
 same_kind Ldd Scalar h = absurd (cc)
 same_kind Ldd Directional h = absurd (cc)
 same_kind Ldd Ldd h = refl
+
+-- an operand of a kind that a row allows is a map: where the first operand of a row is one, the row asks maps alone
+pub map_row-same : (row : Row) (common kind : Kind) → allows common row.first kind ≡ true → map_row row ≡ row
+map_row-same row common kind h = by_first row.first h
+  where
+    by_first : (first : Ask) → allows common first kind ≡ true → cond (is_file first) (behind_file row) row ≡ row
+    by_first (ask.Only asked) h = refl
+    by_first (ask.One kinds) h = refl
+    by_first (ask.Alike kinds) h = refl
+    by_first (ask.Table asked) h = absurd (cc)
+    by_first (ask.Series asked) h = absurd (cc)
+    by_first ask.Stack h = refl
+    by_first ask.Length h = refl
 
 -- ---- lists in two parts
 

@@ -1,6 +1,6 @@
 -- The results of operations on cells, and the kinds that they lie in.
-use Rattle.std.proofs.Common.{◌≡◌, ℕ, ◌<◌, ◌≤◌, ◌&&◌, Bool, true, false, List, length, refl, sym, subst, Ok, Err, cond, arith}
-use Rattle.std.specs.Prelude.{ℤ, pos, negsuc, suc, ◌-ℤ◌, ◌*ℤ◌, int_div, int_rem, unsigned_abs, ◌==◌, nat_le, int_le, int_lt, not, ◌||◌, ◌+ℤ◌, neg_ℤ}
+use Rattle.std.proofs.Common.{◌≡◌, ℕ, zero, suc, ◌<◌, ◌≤◌, ◌&&◌, Bool, true, false, List, [], ◌∷◌, length, refl, sym, subst, Ok, Err, cond, arith}
+use Rattle.std.specs.Prelude.{All, Option, None, Some, option_map, slice_index_or, ℤ, pos, negsuc, ◌-ℤ◌, ◌*ℤ◌, int_div, int_rem, unsigned_abs, ◌==◌, nat_le, int_le, int_lt, not, ◌||◌, ◌+ℤ◌, neg_ℤ}
 use Rattle.std.proofs.Math.Nat.{mod-le}
 use Rattle.std.proofs.lemmas.Int.{ints, quot-rem}
 use Rattle.std.specs.Ordering.{int_eq}
@@ -15,15 +15,23 @@ use Rattle.cell_values.specs.Rounding.{cut_quotient, nearest, nearest_quotient}
 use Rattle.map_meaning.specs.Whole.{whole_above, whole_below, whole_nearest}
 use Rattle.cell_values.specs.Conversion.{conversion_of, converted}
 use Rattle.cell_values.proofs.Readings.{value-from_test}
+use Rattle.std.specs.List.{find}
+use Rattle.lookup_table.specs.Form.{TableRow, TableValue, result_of}
+use Rattle.lookup_table.specs.Keys.{all_lie_in}
+use Rattle.time_series.specs.declared.row.SeriesRow.{SeriesRow}
+use Rattle.time_series.specs.Form.{SeriesValue}
+use Rattle.time_series.specs.Values.{cell_in_column, cell_in_row, cells_at}
 use Rattle.tile_map.specs.Parts.{Outcome}
 use Rattle.map_meaning.specs.declared.op.Op.{Op}
 use Rattle.map_meaning.specs.declared.op.Op.TheVariants as op
-use Rattle.map_meaning.specs.Laws.{HaveKindsAt, LiesIn}
-use Rattle.map_meaning.specs.Local.{compared, cover_of, defined_of, if_else_of, if_then_of, is_either, is_one, truth}
+use Rattle.map_meaning.specs.Laws.{HaveKindsAt, HoldsKind, LiesIn}
+use Rattle.map_meaning.specs.Local.{timeinput_of, further_key, key_number, value_at_keys, compared, cover_of, defined_of, if_else_of, if_then_of, is_either, is_one, truth}
 use Rattle.map_meaning.specs.Maps.{CellAt}
 use Rattle.map_meaning.specs.Missing.{at_cell}
+use Rattle.map_meaning.specs.Programs.{file_role}
+use Rattle.map_meaning.specs.Spans.{HasSeriesKind, HasTableKind}
 use Rattle.map_meaning.specs.Rules.{Setting, kind_at, operand_at, outcome_of, rule_of}
-use Rattle.map_meaning.specs.Table.{HasKinds, is_kind, row_of}
+use Rattle.map_meaning.specs.Table.{HasKinds, is_kind, map_row, row_of}
 use Rattle.map_meaning.proofs.Callers.{same_kind}
 
 -- ---- outcomes by their form
@@ -158,88 +166,157 @@ agrees kinds j k h = same_kind j k (and_parts kinds (is_kind j k) h).1
 as_kind : (kind other : Kind) (outcome : Outcome) → kind ≡ other → LiesIn kind outcome → LiesIn other outcome
 as_kind kind other outcome same h = subst (λ k. LiesIn k outcome) same h
 
+-- ---- tables and series
+
+-- the facts of the items behind the first one
+behind : {X : Type 0} (P : X → Type 0) (x : X) (xs : List X) → All P (x ∷ xs) → All P xs
+behind P x xs all k d below = all (suc k) d (omega arith)
+
+-- the result of a row that is found
+found : (kind : Kind) (test : TableRow → Bool) (rows : List TableRow) → All (λ row. IsValue kind row.result) rows → IsCell kind (result_of (find test rows))
+found kind test [] all = tt
+found kind test (row ∷ rows) all = by_case (test row) (found kind test rows (behind (λ row. IsValue kind row.result) row rows all))
+  where
+    by_case : (b : Bool) → IsCell kind (result_of (find test rows)) → IsCell kind (result_of (cond b (Some row) (find test rows)))
+    by_case true later = all 0 row (omega arith)
+    by_case false later = later
+
+-- the value of a table
+at_keys : (kind : Kind) (table : TableValue) (a b c d : Option ℤ) → HasTableKind kind table → IsCell kind (value_at_keys table a b c d)
+at_keys kind table None b c d all = tt
+at_keys kind table (Some a) None c d all = tt
+at_keys kind table (Some a) (Some b) None d all = tt
+at_keys kind table (Some a) (Some b) (Some c) None all = tt
+at_keys kind table (Some a) (Some b) (Some c) (Some d) all = found kind (λ row. all_lie_in row.keys (a ∷ b ∷ c ∷ d ∷ [])) table.rows all
+
+-- the cell at a place, if there is one
+at_place : (kind : Kind) (cells : List Cell) (place : ℕ) → All (IsCell kind) cells → IsCell kind (slice_index_or cells place Mv)
+at_place kind [] place all = tt
+at_place kind (cell ∷ cells) zero all = all 0 cell (omega arith)
+at_place kind (cell ∷ cells) (suc place) all = at_place kind cells place (behind (IsCell kind) cell cells all)
+
+-- the cell of a column
+in_column : (kind : Kind) (cells : List Cell) (z : ℤ) → All (IsCell kind) cells → IsCell kind (cell_in_column cells z)
+in_column kind cells (pos zero) all = tt
+in_column kind cells (pos (suc place)) all = at_place kind cells place all
+in_column kind cells (negsuc n) all = tt
+
+-- the cell of a column of the row of a step
+in_row : (kind : Kind) (rows : List SeriesRow) (step : ℕ) (z : ℤ) → All (λ row. All (IsCell kind) row.cells) rows → IsCell kind (cell_in_row (cells_at rows step) z)
+in_row kind [] step z all = tt
+in_row kind (row ∷ rows) step z all = by_case (row.step == step) (in_row kind rows step z (behind (λ row. All (IsCell kind) row.cells) row rows all))
+  where
+    by_case : (b : Bool) → IsCell kind (cell_in_row (option_map (λ row. row.cells) (find (λ row. row.step == step) rows)) z) → IsCell kind (cell_in_row (option_map (λ row. row.cells) (cond b (Some row) (find (λ row. row.step == step) rows))) z)
+    by_case true later = in_column kind row.cells z (all 0 row (omega arith))
+    by_case false later = later
+
+-- the cell of the series at an id
+at_column : (kind : Kind) (series : SeriesValue) (step : ℕ) (x : Cell) → HasSeriesKind kind series → LiesIn kind (timeinput_of series step x)
+at_column kind series step Mv all = tt
+at_column kind series step (Val z) all = in_row kind series.rows step z all
+
 -- an operation's result is a cell of its kind where its operands' cells at the place are of theirs
-lies : (o : Op) (setting : Setting) (kind : Kind) (operands : List CellAt) (place : ℕ) → HasKinds (row_of o) setting.kinds kind → HaveKindsAt setting.kinds operands place → LiesIn kind (outcome_of o setting operands place)
+lies : (o : Op) (setting : Setting) (kind : Kind) (operands : List CellAt) (place : ℕ) → HasKinds (map_row (row_of o)) setting.kinds kind → HoldsKind (file_role o (length setting.kinds)) setting kind → HaveKindsAt setting.kinds operands place → LiesIn kind (outcome_of o setting operands place)
 unfolding row_of rule_of
-lies op.CopyOf setting kind operands place h cells =
+lies op.CopyOf setting kind operands place h holds cells =
     as_kind (kind_at setting.kinds 0) kind (Ok (operand_at operands 0 place)) h.gives (cells 0 (from_least _ 1 1 h.count))
-lies op.Add setting kind operands place h cells =
+lies op.Add setting kind operands place h holds cells =
     as_kind Scalar kind _ h.gives (of_numbers (λ a b. a +ℤ b) (operand_at operands 0 place) (operand_at operands 1 place))
-lies op.Sub setting kind operands place h cells =
+lies op.Sub setting kind operands place h holds cells =
     as_kind Scalar kind _ h.gives (of_numbers (λ a b. a -ℤ b) (operand_at operands 0 place) (operand_at operands 1 place))
-lies op.Mul setting kind operands place h cells =
+lies op.Mul setting kind operands place h holds cells =
     as_kind Scalar kind _ h.gives (of_numbers (λ a b. nearest (a *ℤ b) 1000000) (operand_at operands 0 place) (operand_at operands 1 place))
-lies op.Div setting kind operands place h cells =
+lies op.Div setting kind operands place h holds cells =
     as_kind Scalar kind _ h.gives (of_divided (λ a b. nearest_quotient (a *ℤ pos 1000000) b) (operand_at operands 0 place) (operand_at operands 1 place))
-lies op.IntDiv setting kind operands place h cells =
+lies op.IntDiv setting kind operands place h holds cells =
     as_kind Scalar kind _ h.gives (of_divided (λ a b. cut_quotient a b *ℤ pos 1000000) (operand_at operands 0 place) (operand_at operands 1 place))
-lies op.IntMod setting kind operands place h cells =
+lies op.IntMod setting kind operands place h holds cells =
     let scalar : Scalar ≡ kind_at setting.kinds 0 = same_kind Scalar (kind_at setting.kinds 0) (h.each 0 below) in
     as_kind Scalar kind (Ok (scalar_remainder (operand_at operands 0 place) (operand_at operands 1 place))) h.gives (of_left (operand_at operands 0 place) (operand_at operands 1 place) (subst (λ k. IsCell k (operand_at operands 0 place)) (sym scalar) (cells 0 below)))
   where
     below : 0 < length setting.kinds
     below = omega (arith, from_least (length setting.kinds) 2 2 h.count)
-lies op.Neg setting kind operands place h cells =
+lies op.Neg setting kind operands place h holds cells =
     as_kind Scalar kind _ h.gives (of_one (λ a. neg_ℤ a) (operand_at operands 0 place))
-lies op.Abs setting kind operands place h cells =
+lies op.Abs setting kind operands place h holds cells =
     as_kind Scalar kind _ h.gives (of_one (λ a. pos (unsigned_abs a)) (operand_at operands 0 place))
-lies op.RoundDown setting kind operands place h cells =
+lies op.RoundDown setting kind operands place h holds cells =
     as_kind Scalar kind _ h.gives (of_one (λ a. whole_below a) (operand_at operands 0 place))
-lies op.RoundUp setting kind operands place h cells =
+lies op.RoundUp setting kind operands place h holds cells =
     as_kind Scalar kind _ h.gives (of_one (λ a. whole_above a) (operand_at operands 0 place))
-lies op.RoundOff setting kind operands place h cells =
+lies op.RoundOff setting kind operands place h holds cells =
     as_kind Scalar kind _ h.gives (of_one (λ a. whole_nearest a) (operand_at operands 0 place))
-lies op.Min setting kind operands place h cells =
+lies op.Min setting kind operands place h holds cells =
     let two : length setting.kinds ≡ 2 = exactly _ 2 h.count in
     let same = agrees _ _ _ (h.each 1 (omega (arith, two))) in
     as_kind (kind_at setting.kinds 0) kind _ h.gives (of_least (kind_at setting.kinds 0) (operand_at operands 0 place) (operand_at operands 1 place) (cells 0 (omega (arith, two))) (subst (λ k. IsCell k (operand_at operands 1 place)) (sym same) (cells 1 (omega (arith, two)))))
-lies op.Max setting kind operands place h cells =
+lies op.Max setting kind operands place h holds cells =
     let two : length setting.kinds ≡ 2 = exactly _ 2 h.count in
     let same = agrees _ _ _ (h.each 1 (omega (arith, two))) in
     as_kind (kind_at setting.kinds 0) kind _ h.gives (of_greatest (kind_at setting.kinds 0) (operand_at operands 0 place) (operand_at operands 1 place) (cells 0 (omega (arith, two))) (subst (λ k. IsCell k (operand_at operands 1 place)) (sym same) (cells 1 (omega (arith, two)))))
-lies op.Cover setting kind operands place h cells =
+lies op.Cover setting kind operands place h holds cells =
     let two : length setting.kinds ≡ 2 = exactly _ 2 h.count in
     let same = agrees _ _ _ (h.each 1 (omega (arith, two))) in
     as_kind (kind_at setting.kinds 0) kind _ h.gives (of_cover (kind_at setting.kinds 0) (operand_at operands 0 place) (operand_at operands 1 place) (cells 0 (omega (arith, two))) (subst (λ k. IsCell k (operand_at operands 1 place)) (sym same) (cells 1 (omega (arith, two)))))
-lies op.Equal setting kind operands place h cells =
+lies op.Equal setting kind operands place h holds cells =
     as_kind Boolean kind _ h.gives (of_comparison (int_eq) (operand_at operands 0 place) (operand_at operands 1 place))
-lies op.NotEqual setting kind operands place h cells =
+lies op.NotEqual setting kind operands place h holds cells =
     as_kind Boolean kind _ h.gives (of_comparison (λ a b. not (int_eq a b)) (operand_at operands 0 place) (operand_at operands 1 place))
-lies op.Less setting kind operands place h cells =
+lies op.Less setting kind operands place h holds cells =
     as_kind Boolean kind _ h.gives (of_comparison (int_lt) (operand_at operands 0 place) (operand_at operands 1 place))
-lies op.LessEqual setting kind operands place h cells =
+lies op.LessEqual setting kind operands place h holds cells =
     as_kind Boolean kind _ h.gives (of_comparison (int_le) (operand_at operands 0 place) (operand_at operands 1 place))
-lies op.Greater setting kind operands place h cells =
+lies op.Greater setting kind operands place h holds cells =
     as_kind Boolean kind _ h.gives (of_comparison (λ a b. int_lt b a) (operand_at operands 0 place) (operand_at operands 1 place))
-lies op.GreaterEqual setting kind operands place h cells =
+lies op.GreaterEqual setting kind operands place h holds cells =
     as_kind Boolean kind _ h.gives (of_comparison (λ a b. int_le b a) (operand_at operands 0 place) (operand_at operands 1 place))
-lies op.And setting kind operands place h cells =
+lies op.And setting kind operands place h holds cells =
     as_kind Boolean kind _ h.gives (of_comparison (λ a b. is_one a && is_one b) (operand_at operands 0 place) (operand_at operands 1 place))
-lies op.Or setting kind operands place h cells =
+lies op.Or setting kind operands place h holds cells =
     as_kind Boolean kind _ h.gives (of_comparison (λ a b. is_one a || is_one b) (operand_at operands 0 place) (operand_at operands 1 place))
-lies op.Xor setting kind operands place h cells =
+lies op.Xor setting kind operands place h holds cells =
     as_kind Boolean kind _ h.gives (of_comparison (λ a b. is_either (is_one a) (is_one b)) (operand_at operands 0 place) (operand_at operands 1 place))
-lies op.Not setting kind operands place h cells =
+lies op.Not setting kind operands place h holds cells =
     as_kind Boolean kind _ h.gives (of_cell Boolean (λ a. Ok (truth (not (is_one a)))) (λ a. of_truth (not (is_one a))) (operand_at operands 0 place))
-lies op.IfThen setting kind operands place h cells =
+lies op.IfThen setting kind operands place h holds cells =
     as_kind (kind_at setting.kinds 1) kind _ h.gives (of_if_then (kind_at setting.kinds 1) (operand_at operands 0 place) (operand_at operands 1 place) (cells 1 (from_least _ 2 2 h.count)))
-lies op.IfElse setting kind operands place h cells =
+lies op.IfElse setting kind operands place h holds cells =
     let three : 3 ≤ length setting.kinds = from_least (length setting.kinds) 3 3 h.count in
     let same = agrees _ _ _ (h.each 2 (omega (arith, three))) in
     as_kind (kind_at setting.kinds 1) kind _ h.gives (of_if_else (kind_at setting.kinds 1) (operand_at operands 0 place) (operand_at operands 1 place) (operand_at operands 2 place) (cells 1 (omega (arith, three))) (subst (λ k. IsCell k (operand_at operands 2 place)) (sym same) (cells 2 (omega (arith, three)))))
-lies op.Defined setting kind operands place h cells =
+lies op.Defined setting kind operands place h holds cells =
     as_kind Boolean kind _ h.gives (of_defined (operand_at operands 0 place))
-lies op.ToBoolean setting kind operands place h cells =
+lies op.ToBoolean setting kind operands place h holds cells =
     as_kind Boolean kind _ h.gives (of_conversion (kind_at setting.kinds 0) Boolean (operand_at operands 0 place))
-lies op.ToNominal setting kind operands place h cells =
+lies op.ToNominal setting kind operands place h holds cells =
     as_kind Nominal kind _ h.gives (of_conversion (kind_at setting.kinds 0) Nominal (operand_at operands 0 place))
-lies op.ToOrdinal setting kind operands place h cells =
+lies op.ToOrdinal setting kind operands place h holds cells =
     as_kind Ordinal kind _ h.gives (of_conversion (kind_at setting.kinds 0) Ordinal (operand_at operands 0 place))
-lies op.ToScalar setting kind operands place h cells =
+lies op.ToScalar setting kind operands place h holds cells =
     as_kind Scalar kind _ h.gives (of_conversion (kind_at setting.kinds 0) Scalar (operand_at operands 0 place))
-lies op.ToDirectional setting kind operands place h cells =
+lies op.ToDirectional setting kind operands place h holds cells =
     as_kind Directional kind _ h.gives (of_conversion (kind_at setting.kinds 0) Directional (operand_at operands 0 place))
+lies op.LookupBoolean setting kind operands place h holds cells =
+    at_keys kind setting.table (key_number (kind_at setting.kinds 0) (operand_at operands 0 place)) (further_key setting.table setting.kinds 1 (operand_at operands 1 place)) (further_key setting.table setting.kinds 2 (operand_at operands 2 place)) (further_key setting.table setting.kinds 3 (operand_at operands 3 place)) holds
+lies op.LookupNominal setting kind operands place h holds cells =
+    at_keys kind setting.table (key_number (kind_at setting.kinds 0) (operand_at operands 0 place)) (further_key setting.table setting.kinds 1 (operand_at operands 1 place)) (further_key setting.table setting.kinds 2 (operand_at operands 2 place)) (further_key setting.table setting.kinds 3 (operand_at operands 3 place)) holds
+lies op.LookupOrdinal setting kind operands place h holds cells =
+    at_keys kind setting.table (key_number (kind_at setting.kinds 0) (operand_at operands 0 place)) (further_key setting.table setting.kinds 1 (operand_at operands 1 place)) (further_key setting.table setting.kinds 2 (operand_at operands 2 place)) (further_key setting.table setting.kinds 3 (operand_at operands 3 place)) holds
+lies op.LookupScalar setting kind operands place h holds cells =
+    at_keys kind setting.table (key_number (kind_at setting.kinds 0) (operand_at operands 0 place)) (further_key setting.table setting.kinds 1 (operand_at operands 1 place)) (further_key setting.table setting.kinds 2 (operand_at operands 2 place)) (further_key setting.table setting.kinds 3 (operand_at operands 3 place)) holds
+lies op.LookupDirectional setting kind operands place h holds cells =
+    at_keys kind setting.table (key_number (kind_at setting.kinds 0) (operand_at operands 0 place)) (further_key setting.table setting.kinds 1 (operand_at operands 1 place)) (further_key setting.table setting.kinds 2 (operand_at operands 2 place)) (further_key setting.table setting.kinds 3 (operand_at operands 3 place)) holds
+lies op.TimeInputBoolean setting kind operands place h holds cells =
+    at_column kind setting.series setting.step (operand_at operands 0 place) holds
+lies op.TimeInputNominal setting kind operands place h holds cells =
+    at_column kind setting.series setting.step (operand_at operands 0 place) holds
+lies op.TimeInputOrdinal setting kind operands place h holds cells =
+    at_column kind setting.series setting.step (operand_at operands 0 place) holds
+lies op.TimeInputScalar setting kind operands place h holds cells =
+    at_column kind setting.series setting.step (operand_at operands 0 place) holds
+lies op.TimeInputDirectional setting kind operands place h holds cells =
+    at_column kind setting.series setting.step (operand_at operands 0 place) holds
 
 -- the same where they are at all places of a map
-pub in_kind : (o : Op) (setting : Setting) (kind : Kind) (operands : List CellAt) (places place : ℕ) → HasKinds (row_of o) setting.kinds kind → ((other : ℕ) → other < places → HaveKindsAt setting.kinds operands other) → place < places → LiesIn kind (outcome_of o setting operands place)
-in_kind o setting kind operands places place h cells below = lies o setting kind operands place h (cells place below)
+pub in_kind : (o : Op) (setting : Setting) (kind : Kind) (operands : List CellAt) (places place : ℕ) → HasKinds (map_row (row_of o)) setting.kinds kind → HoldsKind (file_role o (length setting.kinds)) setting kind → ((other : ℕ) → other < places → HaveKindsAt setting.kinds operands other) → place < places → LiesIn kind (outcome_of o setting operands place)
+in_kind o setting kind operands places place h holds cells below = lies o setting kind operands place h holds (cells place below)

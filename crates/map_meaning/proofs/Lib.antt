@@ -3,3 +3,4 @@ pub mod InKinds
 pub mod WholeMaps
 pub mod RowLaws
 pub mod NearWhole
+pub mod Tabulated

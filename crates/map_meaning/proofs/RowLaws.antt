@@ -4,6 +4,7 @@ use Rattle.std.specs.Prelude.{All}
 use Rattle.std.proofs.lemmas.List.Elements.{All-cons, All-nil}
 use Rattle.map_meaning.specs.declared.op.Op.{Op}
 use Rattle.map_meaning.specs.declared.op.Op.TheVariants as op
+use Rattle.map_meaning.specs.declared.row.Meant.{Meant}
 use Rattle.map_meaning.specs.declared.row.Meant.TheVariants as meant
 use Rattle.map_meaning.specs.declared.row.Row.{Row}
 use Rattle.map_meaning.specs.declared.table.TheConstants.{OPERATIONS}
@@ -46,6 +47,16 @@ its_meaning op.ToNominal = refl
 its_meaning op.ToOrdinal = refl
 its_meaning op.ToScalar = refl
 its_meaning op.ToDirectional = refl
+its_meaning op.LookupBoolean = refl
+its_meaning op.LookupNominal = refl
+its_meaning op.LookupOrdinal = refl
+its_meaning op.LookupScalar = refl
+its_meaning op.LookupDirectional = refl
+its_meaning op.TimeInputBoolean = refl
+its_meaning op.TimeInputNominal = refl
+its_meaning op.TimeInputOrdinal = refl
+its_meaning op.TimeInputScalar = refl
+its_meaning op.TimeInputDirectional = refl
 
 -- two operations that a row means are one
 one_operation : (x o : Op) → meant.Op x ≡ meant.Op o → row_of o ≡ row_of x
@@ -56,11 +67,23 @@ built : (x : Op) (row : Row) → row_of x ≡ row → row.meant ≡ meant.Op x �
 built x row is means o h = one_operation x o (sym means ∙ h) ∙ is
 
 -- a row that means no operation
+no_operation : (row : Row) (m : Meant) → row.meant ≡ m → ((o : Op) → m ≡ meant.Op o → ⊥) → IsItsRow row
+no_operation row m means not o h = absurd (not o (sym means ∙ h))
+
+not_unbuilt : (o : Op) → meant.Unbuilt ≡ meant.Op o → ⊥
+not_unbuilt o e = cc
+
+not_step : (o : Op) → meant.Step ≡ meant.Op o → ⊥
+not_step o e = cc
+
+not_stack : (o : Op) → meant.Stack ≡ meant.Op o → ⊥
+not_stack o e = cc
+
+not_sample : (o : Op) → meant.Sample ≡ meant.Op o → ⊥
+not_sample o e = cc
+
 unbuilt : (row : Row) → row.meant ≡ meant.Unbuilt → IsItsRow row
-unbuilt row means o h = absurd (different (sym means ∙ h))
-  where
-    different : meant.Unbuilt ≡ meant.Op o → ⊥
-    different e = cc
+unbuilt row means = no_operation row meant.Unbuilt means not_unbuilt
 
 -- a fact of each row of a list, one by one
 abbrev Each : (Row → Type 0) → List Row → Type 0
@@ -112,19 +135,19 @@ each_its_row = from_each IsItsRow OPERATIONS (
     built op.ToOrdinal _ refl refl &
     built op.ToScalar _ refl refl &
     built op.ToDirectional _ refl refl &
-    unbuilt _ refl &
-    unbuilt _ refl &
-    unbuilt _ refl &
-    unbuilt _ refl &
-    unbuilt _ refl &
-    unbuilt _ refl &
-    unbuilt _ refl &
-    unbuilt _ refl &
-    unbuilt _ refl &
-    unbuilt _ refl &
-    unbuilt _ refl &
-    unbuilt _ refl &
-    unbuilt _ refl &
+    built op.LookupBoolean _ refl refl &
+    built op.LookupNominal _ refl refl &
+    built op.LookupOrdinal _ refl refl &
+    built op.LookupScalar _ refl refl &
+    built op.LookupDirectional _ refl refl &
+    built op.TimeInputBoolean _ refl refl &
+    built op.TimeInputNominal _ refl refl &
+    built op.TimeInputOrdinal _ refl refl &
+    built op.TimeInputScalar _ refl refl &
+    built op.TimeInputDirectional _ refl refl &
+    no_operation _ meant.Stack refl not_stack &
+    no_operation _ meant.Step refl not_step &
+    no_operation _ meant.Sample refl not_sample &
     unbuilt _ refl &
     unbuilt _ refl &
     unbuilt _ refl &

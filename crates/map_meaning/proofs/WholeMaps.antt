@@ -1,31 +1,42 @@
 -- Maps with all their cells, of their kind: those of operations whose operands are such.
-use Rattle.std.proofs.Common.{◌≡◌, ℕ, zero, suc, ◌+◌, ◌<◌, ◌≤◌, Bool, true, false, cond, List, [], ◌∷◌, ◌++◌, length, map, refl, sym, ap, subst, ◌∙◌, Ok, Err, Result, arith, ◌⊎◌, inl, inr, length-append}
-use Rattle.std.specs.Prelude.{All, Option, None, Some, IfSome, slice_get, option_map, ⊤}
-use Rattle.std.specs.List.{filter_map, cons_option, list_all}
+use Rattle.std.proofs.Common.{◌≡◌, ℕ, zero, suc, ◌+◌, ◌*◌, ◌<◌, ◌≤◌, Bool, true, false, cond, List, [], ◌∷◌, ◌++◌, length, map, refl, sym, ap, subst, ◌∙◌, Ok, Err, Result, arith, ◌⊎◌, inl, inr, length-append}
+use Rattle.std.specs.Prelude.{◌==◌, All, Option, None, Some, IfSome, slice_get, slice_index_or, option_map, ⊤, pos}
+use Rattle.std.specs.List.{AllZip, filter, filter_map, cons_option, list_all, list_any}
+use Rattle.std.proofs.lemmas.Bool.{eq-eqb, or_left, or_right}
+use Rattle.std.proofs.lemmas.Int.{ints}
 use Rattle.std.proofs.lemmas.List.{get_or_append_left}
 use Rattle.std.proofs.Math.Seq.{get_or-append_seam}
 use Rattle.std.proofs.lemmas.List.Elements.{All-cons, All-nil, All-from_get_or}
 use Rattle.std.proofs.lemmas.Option.{slice_get_within}
 use Rattle.text_base.specs.Results.{◌>>=◌}
 use Rattle.cell_values.specs.declared.kind.Kind.{Kind}
+use Rattle.cell_values.specs.declared.kind.Kind.TheVariants as kinds
 use Rattle.cell_values.specs.declared.cell.Cell.TheVariants.{Mv}
 use Rattle.cell_values.specs.Kinds.{IsCell}
 use Rattle.tile_map.specs.Cuts.{cell_at}
 use Rattle.tile_map.specs.Parts.{IsPart, Outcome, or_missing, part_of}
+use Rattle.map_meaning.specs.declared.known.Known.{Known}
 use Rattle.map_meaning.specs.declared.known.OverAt.{OverAt}
+use Rattle.map_meaning.specs.declared.known.Span.{Span}
 use Rattle.map_meaning.specs.declared.known.Span.TheVariants as span
 use Rattle.map_meaning.specs.declared.program.InputUse.{InputUse}
 use Rattle.map_meaning.specs.declared.program.Operand.{Operand}
-use Rattle.map_meaning.specs.declared.program.Operand.TheVariants.{Unused, Literal, Input, Initial}
+use Rattle.map_meaning.specs.declared.program.Operand.TheVariants.{Unused, Literal, Time, Input, Initial, Now, Last}
+use Rattle.map_meaning.specs.declared.program.Operand.TheVariants as from
 use Rattle.map_meaning.specs.declared.program.Operation.{Operation}
 use Rattle.map_meaning.specs.declared.program.Program.{Program}
-use Rattle.map_meaning.specs.Evaluation.{Done, operand_cell, operation_part, outcome_at, operation_value, operation_values, with_map}
-use Rattle.map_meaning.specs.Laws.{HaveKindsAt, IsWholeMap, LiesIn}
-use Rattle.map_meaning.specs.Maps.{CellAt, IsMapOf, WholeMap, nth}
-use Rattle.map_meaning.specs.Scenes.{Scene, place_count, setting_in}
+use Rattle.map_meaning.specs.declared.program.Role.{Role}
+use Rattle.map_meaning.specs.declared.program.Role.TheVariants.{Grid, Stack, Table, Series}
+use Rattle.map_meaning.specs.Evaluation.{Done, last_map, operand_cell, operation_part, outcome_at, operation_value, operation_values, with_map}
+use Rattle.map_meaning.specs.Laws.{HaveKindsAt, HoldsKind, IsWholeMap, LiesIn, operations_at}
+use Rattle.map_meaning.specs.Limits.{most_steps}
+use Rattle.map_meaning.specs.Maps.{CellAt, IsMapOf, WholeMap, nth, step_cell}
+use Rattle.map_meaning.specs.Rules.{no_series, no_table}
+use Rattle.map_meaning.specs.Scenes.{Scene, place_count, setting_at, stack_map}
 use Rattle.map_meaning.specs.Overs.{map_or_over}
-use Rattle.map_meaning.specs.Programs.{AreOperations, IsBelow, IsOperation, are_used_first, is_unused, kinds_of, operand_kind, operands_of}
-use Rattle.map_meaning.specs.Spans.{AreInputMaps, kept_maps}
+use Rattle.map_meaning.specs.Programs.{AreOneName, AreOperations, AreStepOperations, IsBelow, IsBelowNow, IsFileOf, IsInput, IsOperation, IsOperationOf, IsStepOperation}
+use Rattle.map_meaning.specs.Programs.{are_used_first, file_role, input_kind, is_carried, is_grid, is_initial, is_last, is_read_in_steps, is_series, is_stack, is_table, is_unused, kinds_of, operand_kind, operands_of, operation_kind}
+use Rattle.map_meaning.specs.Spans.{AreInputMaps, AreOfInputs, HasSeriesKind, HasTableKind, IsTableOf, at_inputs, kept_maps, scene_of}
 use Rattle.tile_map.proofs.Callers.{is_part-part_of}
 use Rattle.map_meaning.proofs.InKinds.{in_kind}
 
@@ -34,41 +45,6 @@ use Rattle.map_meaning.proofs.InKinds.{in_kind}
 -- a cell of a map of a kind is one of the kind
 pub cell_in : (places place : ℕ) (kind : Kind) (m : WholeMap) → IsMapOf places kind m → place < places → IsCell kind (cell_at m place)
 cell_in places place kind m whole below = let count : length m ≡ places = whole.count in whole.cells place Mv (omega arith)
-
--- the map of an input is one of its kind
-pub input_map : (places : ℕ) (inputs : List InputUse) (maps : List WholeMap) (n : ℕ) (input : InputUse) → AreInputMaps places inputs maps → slice_get inputs n ≡ Some input → IsMapOf places input.kind (nth maps n)
-input_map places [] maps n input all is = absurd (cc)
-input_map places (i ∷ inputs) [] n input all is = absurd all
-input_map places (i ∷ inputs) (m ∷ maps) zero input all is = let same : i ≡ input = cc in let P : InputUse → Type 0 = λ x. IsMapOf places x.kind m in subst P same all.0
-input_map places (i ∷ inputs) (m ∷ maps) (suc n) input all is = input_map places inputs maps n input all.1 is
-
--- the maps of the first n operations of a program, each whole and of its operation's kind
-pub record AreDone (program : Program) (places n : ℕ) (maps : List WholeMap) : Type 0 where
-  pub count : length maps ≡ n
-  pub each : (k : ℕ) (o : Operation) → k < n → slice_get program.initial k ≡ Some o → IsMapOf places o.kind (nth maps k)
-
--- nothing is done yet
-pub none_done : (program : Program) (places : ℕ) → AreDone program places 0 []
-none_done program places = record { count = refl; each = λ k o below is. absurd (omega arith) }
-
--- one more is done
-pub one_more_done : (program : Program) (places n : ℕ) (maps : List WholeMap) (o : Operation) (m : WholeMap) → AreDone program places n maps → slice_get program.initial n ≡ Some o → IsMapOf places o.kind m → AreDone program places (n + 1) (maps ++ m ∷ [])
-one_more_done program places n maps o m done here whole = record {
-  count = let c : length maps ≡ n = done.count in omega (arith, length-append maps (m ∷ []));
-  each = λ k p below is. at_place k p is (nat_cases k n below);
-}
-  where
-    nat_cases : (k n : ℕ) → k < n + 1 → (k < n) ⊎ (k ≡ n)
-    nat_cases k n below = grind arith
-
-    at_place : (k : ℕ) (p : Operation) → slice_get program.initial k ≡ Some p → (k < n) ⊎ (k ≡ n) → IsMapOf places p.kind (nth (maps ++ m ∷ []) k)
-    at_place k p is (inl below) = let c : length maps ≡ n = done.count in subst (IsMapOf places p.kind) (sym (get_or_append_left maps (m ∷ []) [] k (omega arith))) (done.each k p below is)
-    at_place k p is (inr same) =
-        let c : k ≡ length maps = same ∙ sym done.count in
-        let op : o ≡ p = (let both : Some o ≡ Some p = sym here ∙ (ap (slice_get program.initial) (sym same) ∙ is) in cc) in
-        let cells : nth (maps ++ m ∷ []) k ≡ m = ap (nth (maps ++ m ∷ [])) c ∙ get_or-append_seam maps m [] [] in
-        let P : Operation → Type 0 = λ x. IsMapOf places x.kind m in
-        subst (IsMapOf places p.kind) (sym cells) (subst P op whole)
 
 -- the cell of an outcome in a kind is one of it
 cell_of_outcome : (kind : Kind) (outcome : Outcome) → LiesIn kind outcome → IsCell kind (or_missing outcome)
@@ -86,48 +62,142 @@ part_whole f places kind each =
           subst (IsCell kind) (sym (part.cells i within)) (cell_of_outcome kind (f i) (each i within)));
     }
 
+-- the number of a step is a scalar
+step_in : (step : ℕ) → step ≤ most_steps → IsCell kinds.Scalar (step_cell step)
+step_in step few = record { least = omega (arith, ints, few); greatest = omega (arith, ints, few) }
+
+-- ---- lists
+
 -- an item below the length of a list is there
-there : {X : Type 0} (xs : List X) (k : ℕ) → k < length xs → (x : X) × (slice_get xs k ≡ Some x)
+pub there : {X : Type 0} (xs : List X) (k : ℕ) → k < length xs → (x : X) × (slice_get xs k ≡ Some x)
 there [] k below = absurd (omega arith)
 there (x ∷ xs) zero below = (x, refl)
 there (x ∷ xs) (suc k) below = there xs k (omega arith)
 
--- ---- operands
+-- where an item passes a test, one of the list does
+any_there : {X : Type 0} (test : X → Bool) (xs : List X) (k : ℕ) (x : X) → slice_get xs k ≡ Some x → test x ≡ true → list_any test xs ≡ true
+any_there test [] k x is h = absurd (cc)
+any_there {X} test (y ∷ xs) zero x is h = let same : y ≡ x = cc in or_left (test y) (list_any test xs) (subst (λ z. test z ≡ true) (sym same) h)
+any_there test (y ∷ xs) (suc k) x is h = or_right (test y) (list_any test xs) (any_there test xs k x is h)
 
-module _ (program : Program) (scene : Scene) (n : ℕ) (done : Done) (inputs : AreInputMaps (place_count scene) program.inputs scene.inputs) (all : AreDone program (place_count scene) n done.initial) where
-  -- an input's cell
-  input_cell : (k place : ℕ) (kind : Kind) (input : Option InputUse) → slice_get program.inputs k ≡ input → option_map (λ i. i.kind) input ≡ Some kind → place < place_count scene → IsCell kind (cell_at (nth scene.inputs k) place)
-  input_cell k place kind None is same below = absurd (cc)
-  input_cell k place kind (Some input) is same below =
-      let equal : input.kind ≡ kind = cc in
-      subst (λ j. IsCell j (cell_at (nth scene.inputs k) place)) equal (cell_in (place_count scene) place input.kind (nth scene.inputs k) (input_map (place_count scene) program.inputs scene.inputs k input inputs is) below)
+-- ---- inputs
 
-  -- an earlier operation's cell
-  done_cell : (k place : ℕ) (kind : Kind) (o : Option Operation) → k < n → slice_get program.initial k ≡ o → option_map (λ o. o.kind) o ≡ Some kind → place < place_count scene → IsCell kind (cell_at (nth done.initial k) place)
-  done_cell k place kind None before is same below = absurd (cc)
-  done_cell k place kind (Some o) before is same below =
-      let equal : o.kind ≡ kind = cc in
-      subst (λ j. IsCell j (cell_at (nth done.initial k) place)) equal (cell_in (place_count scene) place o.kind (nth done.initial k) (all.each k o before is) below)
+-- what holds of each item of the inputs of a role holds of the one at an input's number
+pub input_item : {X : Type 0} (has : Role → Bool) (none : X) (Suits : InputUse → X → Type 0) (inputs : List InputUse) (items : List X) (n : ℕ) (input : InputUse) →
+    AreOfInputs has Suits inputs items → slice_get inputs n ≡ Some input → has input.role ≡ true → Suits input (slice_index_or (at_inputs has none inputs items) n none)
+input_item has none Suits [] items n input all is of_role = absurd (cc)
+input_item {X} has none Suits (i ∷ inputs) [] zero input all is of_role =
+    let same : i ≡ input = cc in absurd (nothing (has i.role) all (subst (λ (j : InputUse). has j.role ≡ true) (sym same) of_role))
+  where
+    nothing : (b : Bool) → AllZip Suits (cond b (i ∷ filter (λ input. has input.role) inputs) (filter (λ input. has input.role) inputs)) [] → b ≡ true → ⊥
+    nothing true h of = h
+    nothing false h of = absurd (cc)
+input_item {X} has none Suits (i ∷ inputs) [] (suc n) input all is of_role =
+    input_item has none Suits inputs [] n input (skipped (has i.role) all) is of_role
+  where
+    skipped : (b : Bool) → AllZip Suits (cond b (i ∷ filter (λ input. has input.role) inputs) (filter (λ input. has input.role) inputs)) [] → AllZip Suits (filter (λ input. has input.role) inputs) []
+    skipped true h = absurd h
+    skipped false h = h
+input_item {X} has none Suits (i ∷ inputs) (x ∷ items) n input all is of_role =
+    by_role (has i.role) refl all n is
+    (λ n all is. input_item has none Suits inputs items n input all is of_role)
+    (λ n all is. input_item has none Suits inputs (x ∷ items) n input all is of_role)
+  where
+    rest : List InputUse
+    rest = filter (λ input. has input.role) inputs
 
-  -- an operand's cell is one of its kind
-  pub operand_in : (operand : Operand) (place : ℕ) (kind : Kind) → IsBelow program n operand → operand_kind program operand ≡ Some kind → place < place_count scene → IsCell kind (operand_cell scene done operand place)
-  operand_in Unused place kind below is within = absurd (cc)
-  operand_in (Literal k cell) place kind below is within = let same : k ≡ kind = cc in subst (λ j. IsCell j cell) same below
-  operand_in (Input k) place kind below is within = input_cell k place kind (slice_get program.inputs k) refl is within
-  operand_in (Initial k) place kind below is within = done_cell k place kind (slice_get program.initial k) below refl is within
+    by_role : (b : Bool) → has i.role ≡ b → AllZip Suits (cond b (i ∷ rest) rest) (x ∷ items) → (n : ℕ) → slice_get (i ∷ inputs) n ≡ Some input →
+        ((n : ℕ) → AllZip Suits rest items → slice_get inputs n ≡ Some input → Suits input (slice_index_or (at_inputs has none inputs items) n none)) →
+        ((n : ℕ) → AllZip Suits rest (x ∷ items) → slice_get inputs n ≡ Some input → Suits input (slice_index_or (at_inputs has none inputs (x ∷ items)) n none)) →
+        Suits input (slice_index_or (cond b (x ∷ at_inputs has none inputs items) (none ∷ at_inputs has none inputs (x ∷ items))) n none)
+    by_role true h all zero is taken skipped = let same : i ≡ input = cc in subst (λ (j : InputUse). Suits j x) same all.0
+    by_role true h all (suc n) is taken skipped = taken n all.1 is
+    by_role false h all zero is taken skipped =
+        let same : i ≡ input = cc in
+        let not : has input.role ≡ false = subst (λ (j : InputUse). has j.role ≡ false) same h in
+        let e : true ≡ false = sym of_role ∙ not in absurd (cc)
+    by_role false h all (suc n) is taken skipped = skipped n all is
 
-  -- the operands of a list may be those of the operation n
-  abbrev pub AllBelow : List Operand → Type 0
-  AllBelow [] = ⊤
-  AllBelow (operand ∷ more) = IsBelow program n operand × AllBelow more
+-- an input of a role
+pub input_there : (program : Program) (asked : Role) (n : ℕ) → IsInput program asked n → (input : InputUse) × (slice_get program.inputs n ≡ Some input) × (input.role ≡ asked)
+input_there program asked n is =
+    let found = there program.inputs n is.within in
+    let P : Option InputUse → Type 0 = λ o. IfSome o (λ input. input.role ≡ asked) in
+    (found.0, found.1, subst P found.1 is.role)
+
+-- What a scene has of its inputs: whole maps of the kinds of the grids, and tables and series with values of their kinds.
+pub record HasInputs (program : Program) (scene : Scene) : Type 0 where
+  pub grids : (n : ℕ) (input : InputUse) → slice_get program.inputs n ≡ Some input → is_grid input.role ≡ true → IsMapOf (place_count scene) input.kind (nth scene.inputs n)
+  pub tables : (n : ℕ) (input : InputUse) → slice_get program.inputs n ≡ Some input → is_table input.role ≡ true → HasTableKind input.kind (slice_index_or scene.tables n no_table)
+  pub series : (n : ℕ) (input : InputUse) → slice_get program.inputs n ≡ Some input → is_series input.role ≡ true → HasSeriesKind input.kind (slice_index_or scene.series n no_series)
+
+-- the scene of what is known has its inputs
+pub scene_inputs : (program : Program) (known : Known) (step : ℕ) → AreInputMaps (known.rows * known.cols) program.inputs known.maps → AreOfInputs is_table IsTableOf program.inputs known.tables →
+    AreOfInputs is_series (λ input series. HasSeriesKind input.kind series) program.inputs known.series → HasInputs program (scene_of program.inputs known step)
+scene_inputs program known step maps tables series = record {
+  grids = λ n input is of_role. input_item is_grid [] (λ input m. IsMapOf (known.rows * known.cols) input.kind m) program.inputs known.maps n input maps is of_role;
+  tables = λ n input is of_role. (input_item is_table no_table IsTableOf program.inputs known.tables n input tables is of_role).cells;
+  series = λ n input is of_role. input_item is_series no_series (λ input series. HasSeriesKind input.kind series) program.inputs known.series n input series is of_role;
+}
+
+-- ---- maps that are done
+
+-- the maps of the first n of some operations, each whole and of its operation's kind
+pub record AreDone (operations : List Operation) (places n : ℕ) (maps : List WholeMap) : Type 0 where
+  pub count : length maps ≡ n
+  pub each : (k : ℕ) (o : Operation) → k < n → slice_get operations k ≡ Some o → IsMapOf places o.kind (nth maps k)
+
+-- nothing is done yet
+pub none_done : (operations : List Operation) (places : ℕ) → AreDone operations places 0 []
+none_done operations places = record { count = refl; each = λ k o below is. absurd (omega arith) }
+
+-- one more is done
+pub one_more_done : (operations : List Operation) (places n : ℕ) (maps : List WholeMap) (o : Operation) (m : WholeMap) → AreDone operations places n maps → slice_get operations n ≡ Some o → IsMapOf places o.kind m → AreDone operations places (n + 1) (maps ++ m ∷ [])
+one_more_done operations places n maps o m done here whole = record {
+  count = let c : length maps ≡ n = done.count in omega (arith, length-append maps (m ∷ []));
+  each = λ k p below is. at_place k p is (nat_cases k n below);
+}
+  where
+    nat_cases : (k n : ℕ) → k < n + 1 → (k < n) ⊎ (k ≡ n)
+    nat_cases k n below = grind arith
+
+    at_place : (k : ℕ) (p : Operation) → slice_get operations k ≡ Some p → (k < n) ⊎ (k ≡ n) → IsMapOf places p.kind (nth (maps ++ m ∷ []) k)
+    at_place k p is (inl below) = let c : length maps ≡ n = done.count in subst (IsMapOf places p.kind) (sym (get_or_append_left maps (m ∷ []) [] k (omega arith))) (done.each k p below is)
+    at_place k p is (inr same) =
+        let c : k ≡ length maps = same ∙ sym done.count in
+        let op : o ≡ p = (let both : Some o ≡ Some p = sym here ∙ (ap (slice_get operations) (sym same) ∙ is) in cc) in
+        let cells : nth (maps ++ m ∷ []) k ≡ m = ap (nth (maps ++ m ∷ [])) c ∙ get_or-append_seam maps m [] [] in
+        let P : Operation → Type 0 = λ x. IsMapOf places x.kind m in
+        subst (IsMapOf places p.kind) (sym cells) (subst P op whole)
+
+-- the maps of the operations that pass a test are whole and of their operations' kinds
+abbrev pub AreHeld : List Operation → (ℕ → Operation → Bool) → ℕ → List WholeMap → Type 0
+AreHeld operations test places maps = (k : ℕ) (o : Operation) → slice_get operations k ≡ Some o → test k o ≡ true → IsMapOf places o.kind (nth maps k)
+
+-- ---- operations whose operands are sound
+
+-- what an operation may read has a kind where it is there, and cells of this kind
+pub record AreSound (program : Program) (scene : Scene) (done : Done) (IsRead : Operand → Type 0) : Type 0 where
+  pub kind : (operand : Operand) → IsRead operand → is_unused operand ≡ false → (kind : Kind) × (operand_kind program operand ≡ Some kind)
+  pub cells : (operand : Operand) (place : ℕ) (kind : Kind) → IsRead operand → operand_kind program operand ≡ Some kind → place < place_count scene → IsCell kind (operand_cell scene done operand place)
+
+module _ (program : Program) (scene : Scene) (done : Done) (inputs : HasInputs program scene) (IsRead : Operand → Type 0) (sound : AreSound program scene done IsRead) where
+  -- the operands of a list may be read
+  abbrev pub AllRead : List Operand → Type 0
+  AllRead [] = ⊤
+  AllRead (operand ∷ more) = IsRead operand × AllRead more
 
   -- operands that are unused have no kinds
   no_kinds : (operands : List Operand) → list_all is_unused operands ≡ true → filter_map (operand_kind program) operands ≡ []
   no_kinds [] unused = refl
   no_kinds (Unused ∷ more) unused = no_kinds more unused
   no_kinds (Literal kind cell ∷ more) unused = absurd (cc)
+  no_kinds (Time ∷ more) unused = absurd (cc)
   no_kinds (Input k ∷ more) unused = absurd (cc)
+  no_kinds (from.Stack k ∷ more) unused = absurd (cc)
   no_kinds (Initial k ∷ more) unused = absurd (cc)
+  no_kinds (Now k ∷ more) unused = absurd (cc)
+  no_kinds (Last k i ∷ more) unused = absurd (cc)
 
   -- one more operand in front
   operand_before : (operand : Operand) (kind : Kind) (kinds : List Kind) (cells : List CellAt) (place : ℕ) → IsCell kind (operand_cell scene done operand place) → HaveKindsAt kinds cells place → HaveKindsAt (kind ∷ kinds) (operand_cell scene done operand ∷ cells) place
@@ -135,75 +205,241 @@ module _ (program : Program) (scene : Scene) (n : ℕ) (done : Done) (inputs : A
   operand_before operand kind kinds cells place first rest (suc i) below = rest i (omega arith)
 
   -- one more operand in front, whose kind is looked up
-  operand_found : (operand : Operand) (kinds : List Kind) (cells : List CellAt) (place : ℕ) → IsBelow program n operand → ((kind : Kind) × (operand_kind program operand ≡ Some kind)) → place < place_count scene →
+  operand_found : (operand : Operand) (kinds : List Kind) (cells : List CellAt) (place : ℕ) → IsRead operand → is_unused operand ≡ false → place < place_count scene →
       HaveKindsAt kinds cells place → HaveKindsAt (cons_option (operand_kind program operand) kinds) (operand_cell scene done operand ∷ cells) place
-  operand_found operand kinds cells place below found within rest =
+  operand_found operand kinds cells place read used within rest =
+      let found = sound.kind operand read used in
       subst (λ o. HaveKindsAt (cons_option o kinds) (operand_cell scene done operand ∷ cells) place) (sym found.1)
-      (operand_before operand found.0 kinds cells place (operand_in operand place found.0 below found.1 within) rest)
+      (operand_before operand found.0 kinds cells place (sound.cells operand place found.0 read found.1 within) rest)
 
-  module _ (enough : n ≤ length program.initial) where
-    -- the cells of operands are of the operands' kinds
-    pub operands_in : (operands : List Operand) (place : ℕ) → are_used_first operands ≡ true → AllBelow operands → place < place_count scene → HaveKindsAt (filter_map (operand_kind program) operands) (map (operand_cell scene done) operands) place
-    operands_in [] place used below within = λ i under. absurd (omega arith)
-    operands_in (Unused ∷ more) place used below within = λ i under. let none : length (filter_map (operand_kind program) more) ≡ 0 = ap length (no_kinds more used) in absurd (omega arith)
-    operands_in (Literal kind cell ∷ more) place used below within =
-        operand_found (Literal kind cell) (filter_map (operand_kind program) more) (map (operand_cell scene done) more) place below.0 (kind, refl) within (operands_in more place used below.1 within)
-    operands_in (Input k ∷ more) place used below within =
-        let here = there program.inputs k below.0.within in
-        operand_found (Input k) (filter_map (operand_kind program) more) (map (operand_cell scene done) more) place below.0 (here.0.kind, ap (option_map (λ i. i.kind)) here.1) within (operands_in more place used below.1 within)
-    operands_in (Initial k ∷ more) place used below within =
-        let before : k < n = below.0 in
-        let here = there program.initial k (omega (arith, before, enough)) in
-        operand_found (Initial k) (filter_map (operand_kind program) more) (map (operand_cell scene done) more) place below.0 (here.0.kind, ap (option_map (λ o. o.kind)) here.1) within (operands_in more place used below.1 within)
+  -- the cells of operands are of the operands' kinds
+  pub operands_in : (operands : List Operand) (place : ℕ) → are_used_first operands ≡ true → AllRead operands → place < place_count scene → HaveKindsAt (filter_map (operand_kind program) operands) (map (operand_cell scene done) operands) place
+  operands_in [] place used read within = λ i under. absurd (omega arith)
+  operands_in (Unused ∷ more) place used read within = λ i under. let none : length (filter_map (operand_kind program) more) ≡ 0 = ap length (no_kinds more used) in absurd (omega arith)
+  operands_in (Literal kind cell ∷ more) place used read within = operand_found (Literal kind cell) _ _ place read.0 refl within (operands_in more place used read.1 within)
+  operands_in (Time ∷ more) place used read within = operand_found Time _ _ place read.0 refl within (operands_in more place used read.1 within)
+  operands_in (Input k ∷ more) place used read within = operand_found (Input k) _ _ place read.0 refl within (operands_in more place used read.1 within)
+  operands_in (from.Stack k ∷ more) place used read within = operand_found (from.Stack k) _ _ place read.0 refl within (operands_in more place used read.1 within)
+  operands_in (Initial k ∷ more) place used read within = operand_found (Initial k) _ _ place read.0 refl within (operands_in more place used read.1 within)
+  operands_in (Now k ∷ more) place used read within = operand_found (Now k) _ _ place read.0 refl within (operands_in more place used read.1 within)
+  operands_in (Last k i ∷ more) place used read within = operand_found (Last k i) _ _ place read.0 refl within (operands_in more place used read.1 within)
 
-    -- ---- the map of an operation
+  -- what an operation looks its results up in has values of its kind
+  file_holds : (asked : Option Role) (kind : Kind) (n : ℕ) (kinds : List Kind) → IsFileOf program asked kind n → HoldsKind asked (setting_at scene n kinds) kind
+  file_holds None kind n kinds is = tt
+  file_holds (Some Grid) kind n kinds is = tt
+  file_holds (Some Stack) kind n kinds is = tt
+  file_holds (Some (Table keys)) kind n kinds is =
+      let found = input_there program (Table keys) n is.input in
+      let same : found.0.kind ≡ kind = (let both : Some found.0.kind ≡ Some kind = sym (ap (option_map (λ (i : InputUse). i.kind)) found.1) ∙ is.kind_is in cc) in
+      subst (λ k. HasTableKind k (slice_index_or scene.tables n no_table)) same (inputs.tables n found.0 found.1 (ap is_table found.2))
+  file_holds (Some Series) kind n kinds is =
+      let found = input_there program Series n is.input in
+      let same : found.0.kind ≡ kind = (let both : Some found.0.kind ≡ Some kind = sym (ap (option_map (λ (i : InputUse). i.kind)) found.1) ∙ is.kind_is in cc) in
+      subst (λ k. HasSeriesKind k (slice_index_or scene.series n no_series)) same (inputs.series n found.0 found.1 (ap is_series found.2))
 
-    -- the map of an operation has a cell for each place, of its kind
-    pub map_whole : (o : Operation) → IsOperation program n o → IsMapOf (place_count scene) o.kind (operation_part program scene done o).cells
-    unfolding operation_part
-    map_whole o is = part_whole (outcome_at program scene done o) (place_count scene) o.kind (λ place within. in_kind o.op (setting_in scene (kinds_of program o)) o.kind (map (operand_cell scene done) (operands_of o)) (place_count scene) place is.kinds (λ other below. operands_in (operands_of o) other is.used (is.a, (is.b, (is.c, (is.d, tt)))) below) within)
+  -- the map of an operation has a cell for each place, of its kind
+  pub map_whole : (o : Operation) (keep : Bool) → IsOperationOf program IsRead keep o → IsMapOf (place_count scene) o.kind (operation_part program scene done o).cells
+  unfolding operation_part
+  map_whole o keep is = part_whole (outcome_at program scene done o) (place_count scene) o.kind (λ place within. in_kind o.op (setting_at scene o.file (kinds_of program o)) o.kind (map (operand_cell scene done) (operands_of o)) (place_count scene) place is.kinds (file_holds (file_role o.op (length (kinds_of program o))) o.kind o.file (kinds_of program o) is.file) (λ other below. operands_in (operands_of o) other is.used (is.a, (is.b, (is.c, (is.d, tt)))) below) within)
+
+-- ---- what operations read
+
+module _ (program : Program) (scene : Scene) (done : Done) (inputs : HasInputs program scene) where
+  -- a map that is whole has cells of the kind that is looked up
+  cell_of_map : (m : WholeMap) (found kind : Kind) (looked : Option Kind) (place : ℕ) → looked ≡ Some found → IsMapOf (place_count scene) found m → looked ≡ Some kind → place < place_count scene → IsCell kind (cell_at m place)
+  cell_of_map m found kind looked place is whole same within = let equal : found ≡ kind = (let both : Some found ≡ Some kind = sym is ∙ same in cc) in subst (λ k. IsCell k (cell_at m place)) equal (cell_in (place_count scene) place found m whole within)
+
+  -- an input's cell
+  input_cell : (k place : ℕ) (kind : Kind) → IsInput program Grid k → input_kind program k ≡ Some kind → place < place_count scene → IsCell kind (cell_at (nth scene.inputs k) place)
+  input_cell k place kind is same within =
+      let found = input_there program Grid k is in
+      cell_of_map (nth scene.inputs k) found.0.kind kind (input_kind program k) place (ap (option_map (λ (i : InputUse). i.kind)) found.1) (inputs.grids k found.0 found.1 (ap is_grid found.2)) same within
+
+  -- an operation's cell
+  operation_cell : (operations : List Operation) (maps : List WholeMap) (k place : ℕ) (kind : Kind) (o : Operation) → slice_get operations k ≡ Some o → IsMapOf (place_count scene) o.kind (nth maps k) → operation_kind operations k ≡ Some kind → place < place_count scene → IsCell kind (cell_at (nth maps k) place)
+  operation_cell operations maps k place kind o is whole same within = cell_of_map (nth maps k) o.kind kind (operation_kind operations k) place (ap (option_map (λ (o : Operation). o.kind)) is) whole same within
+
+  -- an operation of `initial` reads what is sound
+  pub sound_initial : (n : ℕ) → n ≤ length program.initial → AreDone program.initial (place_count scene) n done.initial → AreSound program scene done (IsBelow program n)
+  sound_initial n enough all = record { kind = kind_of; cells = cells_of }
+    where
+      kind_of : (operand : Operand) → IsBelow program n operand → is_unused operand ≡ false → (kind : Kind) × (operand_kind program operand ≡ Some kind)
+      kind_of Unused below used = absurd (cc)
+      kind_of (Literal kind cell) below used = (kind, refl)
+      kind_of Time below used = absurd below
+      kind_of (Input k) below used = let here = there program.inputs k below.within in (here.0.kind, ap (option_map (λ (i : InputUse). i.kind)) here.1)
+      kind_of (from.Stack k) below used = absurd below
+      kind_of (Initial k) below used = let before : k < n = below in let here = there program.initial k (omega (arith, before, enough)) in (here.0.kind, ap (option_map (λ (o : Operation). o.kind)) here.1)
+      kind_of (Now k) below used = absurd below
+      kind_of (Last k i) below used = absurd below
+
+      cells_of : (operand : Operand) (place : ℕ) (kind : Kind) → IsBelow program n operand → operand_kind program operand ≡ Some kind → place < place_count scene → IsCell kind (operand_cell scene done operand place)
+      cells_of Unused place kind below is within = absurd (cc)
+      cells_of (Literal k cell) place kind below is within = let same : k ≡ kind = cc in subst (λ j. IsCell j cell) same below
+      cells_of Time place kind below is within = absurd below
+      cells_of (Input k) place kind below is within = input_cell k place kind below is within
+      cells_of (from.Stack k) place kind below is within = absurd below
+      cells_of (Initial k) place kind below is within =
+          let before : k < n = below in
+          let here = there program.initial k (omega (arith, before, enough)) in
+          operation_cell program.initial done.initial k place kind here.0 here.1 (all.each k here.0 before here.1) is within
+      cells_of (Now k) place kind below is within = absurd below
+      cells_of (Last k i) place kind below is within = absurd below
+
+-- the operations of a list are such, by their numbers
+pub operation_of : (program : Program) (n k : ℕ) (operations : List Operation) (o : Operation) → AreOperations program n operations → slice_get operations k ≡ Some o → IsOperation program (n + k) o
+operation_of program n k [] o all is = absurd (cc)
+operation_of program n zero (p ∷ more) o all is =
+    let same : p ≡ o = cc in let here : n ≡ n + 0 = omega arith in
+    let P : Operation → Type 0 = λ x. IsOperation program (n + 0) x in
+    subst P same (subst (λ j. IsOperation program j p) here all.0)
+operation_of program n (suc k) (p ∷ more) o all is =
+    let here : n + 1 + k ≡ n + suc k = omega arith in subst (λ j. IsOperation program j o) here (operation_of program (n + 1) k more o all.1 is)
+
+-- the same of `dynamic`
+pub step_operation_of : (program : Program) (n k : ℕ) (operations : List Operation) (o : Operation) → AreStepOperations program n operations → slice_get operations k ≡ Some o → IsStepOperation program (n + k) o
+step_operation_of program n k [] o all is = absurd (cc)
+step_operation_of program n zero (p ∷ more) o all is =
+    let same : p ≡ o = cc in let here : n ≡ n + 0 = omega arith in
+    let P : Operation → Type 0 = λ x. IsStepOperation program (n + 0) x in
+    subst P same (subst (λ j. IsStepOperation program j p) here all.0)
+step_operation_of program n (suc k) (p ∷ more) o all is =
+    let here : n + 1 + k ≡ n + suc k = omega arith in subst (λ j. IsStepOperation program j o) here (step_operation_of program (n + 1) k more o all.1 is)
+
+-- what an operation of `dynamic` reads, and that steps read it
+pub record IsReadNow (program : Program) (n : ℕ) (operand : Operand) : Type 0 where
+  pub below : IsBelowNow program n operand
+  pub seen : (test : Operand → Bool) → test operand ≡ true → is_read_in_steps program test ≡ true
+
+-- an operation of `dynamic` that stands in its list reads what steps read
+pub read_now : (program : Program) (n : ℕ) (o : Operation) → slice_get program.dynamic n ≡ Some o → IsStepOperation program n o → IsOperationOf program (IsReadNow program n) o.kept o
+read_now program n o here is =
+    let seen : (test : Operand → Bool) → list_any test (operands_of o) ≡ true → is_read_in_steps program test ≡ true = λ test h. any_there (λ (o : Operation). list_any test (operands_of o)) program.dynamic n o here h in
+    record {
+      a = record { below = is.a; seen = λ test h. seen test (or_left (test o.a) _ h) };
+      b = record { below = is.b; seen = λ test h. seen test (or_right (test o.a) _ (or_left (test o.b) _ h)) };
+      c = record { below = is.c; seen = λ test h. seen test (or_right (test o.a) _ (or_right (test o.b) _ (or_left (test o.c) _ h))) };
+      d = record { below = is.d; seen = λ test h. seen test (or_right (test o.a) _ (or_right (test o.b) _ (or_right (test o.c) _ (or_left (test o.d) _ h)))) };
+      used = is.used;
+      kinds = is.kinds;
+      file = is.file;
+      kept = refl;
+    }
+
+-- What is done in a step: the maps of its first n operations, the kept ones of `initial`, and behind step 1 those of the step
+-- before that are carried on.
+pub record IsDoneNow (program : Program) (places step n : ℕ) (done : Done) : Type 0 where
+  pub now : AreDone program.dynamic places n done.dynamic
+  pub initial : AreHeld program.initial (λ k o. o.kept) places done.initial
+  pub carried : 1 < step → AreHeld program.dynamic (λ k o. is_carried program k) places done.last
+
+-- the grids of stacks at a step
+abbrev pub HasStacksAt : Program → Scene → Type 0
+HasStacksAt program scene = (n : ℕ) (input : InputUse) → slice_get program.inputs n ≡ Some input → input.role ≡ Stack → IsMapOf (place_count scene) input.kind (stack_map scene n)
+
+module _ (program : Program) (scene : Scene) (done : Done) (n : ℕ) (inputs : HasInputs program scene) (stacks : HasStacksAt program scene) (operations : AreOperations program 0 program.initial)
+    (some : 1 ≤ scene.step) (few : scene.step ≤ most_steps) (enough : n ≤ length program.dynamic) (all : IsDoneNow program (place_count scene) scene.step n done) where
+  -- an operation of `initial` that steps read is kept
+  kept_read : (k : ℕ) (o : Operation) → slice_get program.initial k ≡ Some o → is_read_in_steps program (is_initial k) ≡ true → o.kept ≡ true
+  kept_read k o is read =
+      let formed : IsOperation program (0 + k) o = operation_of program 0 k program.initial o operations is in
+      let same : 0 + k ≡ k = omega arith in
+      let here : IsOperation program k o = subst (λ j. IsOperation program j o) same formed in
+      here.kept ∙ or_left (is_read_in_steps program (is_initial k)) _ read
+
+  -- the map of a name at the step before
+  last_cell : (d i place : ℕ) (kind : Kind) → AreOneName program d i → is_read_in_steps program (is_initial i) ≡ true → is_carried program d ≡ true → operation_kind program.dynamic d ≡ Some kind → place < place_count scene → IsCell kind (cell_at (last_map scene done d i) place)
+  last_cell d i place kind names read carried is within = by_step (scene.step == 1) refl
+    where
+      first : (o : Operation) → slice_get program.initial i ≡ Some o → IsCell kind (cell_at (nth done.initial i) place)
+      first o here = operation_cell program scene done inputs program.initial done.initial i place kind o here (all.initial i o here (kept_read i o here read)) (sym names.kind ∙ is) within
+
+      later : 1 < scene.step → (o : Operation) → slice_get program.dynamic d ≡ Some o → IsCell kind (cell_at (nth done.last d) place)
+      later behind o here = operation_cell program scene done inputs program.dynamic done.last d place kind o here (all.carried behind d o here carried) is within
+
+      by_step : (b : Bool) → (scene.step == 1) ≡ b → IsCell kind (cell_at (cond b (nth done.initial i) (nth done.last d)) place)
+      by_step true h = let here = there program.initial i names.of_initial in first here.0 here.1
+      by_step false h = let here = there program.dynamic d names.of_dynamic in later (let other : (scene.step == 1) ≡ false = h in grind (arith, other, some)) here.0 here.1
+
+  -- an operation of `dynamic` reads what is sound
+  pub sound_now : AreSound program scene done (IsReadNow program n)
+  sound_now = record { kind = kind_of; cells = cells_of }
+    where
+      kind_of : (operand : Operand) → IsReadNow program n operand → is_unused operand ≡ false → (kind : Kind) × (operand_kind program operand ≡ Some kind)
+      kind_of Unused read used = absurd (cc)
+      kind_of (Literal kind cell) read used = (kind, refl)
+      kind_of Time read used = (kinds.Scalar, refl)
+      kind_of (Input k) read used = let here = there program.inputs k read.below.within in (here.0.kind, ap (option_map (λ (i : InputUse). i.kind)) here.1)
+      kind_of (from.Stack k) read used = let here = there program.inputs k read.below.within in (here.0.kind, ap (option_map (λ (i : InputUse). i.kind)) here.1)
+      kind_of (Initial k) read used = let here = there program.initial k read.below in (here.0.kind, ap (option_map (λ (o : Operation). o.kind)) here.1)
+      kind_of (Now k) read used = let before : k < n = read.below in let here = there program.dynamic k (omega (arith, before, enough)) in (here.0.kind, ap (option_map (λ (o : Operation). o.kind)) here.1)
+      kind_of (Last k i) read used = let here = there program.dynamic k read.below.of_dynamic in (here.0.kind, ap (option_map (λ (o : Operation). o.kind)) here.1)
+
+      cells_of : (operand : Operand) (place : ℕ) (kind : Kind) → IsReadNow program n operand → operand_kind program operand ≡ Some kind → place < place_count scene → IsCell kind (operand_cell scene done operand place)
+      cells_of Unused place kind read is within = absurd (cc)
+      cells_of (Literal k cell) place kind read is within = let same : k ≡ kind = cc in subst (λ j. IsCell j cell) same read.below
+      cells_of Time place kind read is within = let same : kinds.Scalar ≡ kind = cc in subst (λ j. IsCell j (step_cell scene.step)) same (step_in scene.step few)
+      cells_of (Input k) place kind read is within = input_cell program scene done inputs k place kind read.below is within
+      cells_of (from.Stack k) place kind read is within =
+          let found = input_there program Stack k read.below in
+          cell_of_map program scene done inputs (stack_map scene k) found.0.kind kind (input_kind program k) place (ap (option_map (λ (i : InputUse). i.kind)) found.1) (stacks k found.0 found.1 found.2) is within
+      cells_of (Initial k) place kind read is within =
+          let here = there program.initial k read.below in
+          operation_cell program scene done inputs program.initial done.initial k place kind here.0 here.1 (all.initial k here.0 here.1 (kept_read k here.0 here.1 (read.seen (is_initial k) (eq-eqb k k refl)))) is within
+      cells_of (Now k) place kind read is within =
+          let before : k < n = read.below in
+          let here = there program.dynamic k (omega (arith, before, enough)) in
+          operation_cell program scene done inputs program.dynamic done.dynamic k place kind here.0 here.1 (all.now.each k here.0 before here.1) is within
+      cells_of (Last k i) place kind read is within = last_cell k i place kind read.below (read.seen (is_initial i) (eq-eqb i i refl)) (read.seen (is_last k) (eq-eqb k k refl)) is within
 
 -- ---- the maps of operations
 
--- the operations are those of the program from number n on
-abbrev pub AreFrom : Program → ℕ → List Operation → Type 0
-AreFrom program n [] = ⊤
-AreFrom program n (o ∷ more) = (slice_get program.initial n ≡ Some o) × AreFrom program (n + 1) more
+-- the operations are those of a list from number n on
+abbrev pub AreFrom : List Operation → ℕ → List Operation → Type 0
+AreFrom operations n [] = ⊤
+AreFrom operations n (o ∷ more) = (slice_get operations n ≡ Some o) × AreFrom operations (n + 1) more
+
+-- the operations of a list stand at their numbers
+pub from_list : (operations : List Operation) (n : ℕ) (rest : List Operation) → ((k : ℕ) → slice_get operations (n + k) ≡ slice_get rest k) → AreFrom operations n rest
+from_list operations n [] at = tt
+from_list operations n (o ∷ more) at = (first, from_list operations (n + 1) more others)
+  where
+    first : slice_get operations n ≡ Some o
+    first = let same : n + 0 ≡ n = omega arith in subst (λ k. slice_get operations k ≡ Some o) same (at 0)
+
+    others : (k : ℕ) → slice_get operations (n + 1 + k) ≡ slice_get more k
+    others k = let same : n + suc k ≡ n + 1 + k = omega arith in subst (λ j. slice_get operations j ≡ slice_get more k) same (at (suc k))
 
 -- a map that an operation gave is that of its part
 gave : (scene : Scene) (statement number : ℕ) (over : Option ℕ) (cells m : WholeMap) → map_or_over scene statement number over cells ≡ Ok m → cells ≡ m
 gave scene statement number None cells m is = cc
 gave scene statement number (Some place) cells m is = absurd (cc)
 
--- what some operations gave is done
-pub values_done : (program : Program) (scene : Scene) (first end n : ℕ) (done after : Done) (operations : List Operation) → AreInputMaps (place_count scene) program.inputs scene.inputs → AreDone program (place_count scene) n done.initial →
-    AreOperations program n operations → AreFrom program n operations → operation_values program scene (span.Initial first end) done operations ≡ Ok after → AreDone program (place_count scene) (n + length operations) after.initial
-values_done program scene first end n done after [] inputs all are from is =
-    let same : done ≡ after = cc in
-    let P : Done → Type 0 = λ d. AreDone program (place_count scene) n d.initial in
-    let Q : ℕ → Type 0 = λ k. AreDone program (place_count scene) k after.initial in
-    subst Q (omega arith) (subst P same all)
-values_done program scene first end n done after (o ∷ more) inputs all are from is =
-    behind_first (operation_value program scene done o) refl is (λ m next gives. values_done program scene first end (n + 1) (with_map (span.Initial first end) done m) after more inputs next are.1 from.1 gives)
-  where
-    behind_first : (r : Result WholeMap OverAt) → operation_value program scene done o ≡ r → (r >>= λ m. operation_values program scene (span.Initial first end) (with_map (span.Initial first end) done m) more) ≡ Ok after →
-        ((m : WholeMap) → AreDone program (place_count scene) (n + 1) (done.initial ++ m ∷ []) → operation_values program scene (span.Initial first end) (with_map (span.Initial first end) done m) more ≡ Ok after → AreDone program (place_count scene) (n + 1 + length more) after.initial) →
-        AreDone program (place_count scene) (n + length (o ∷ more)) after.initial
-    behind_first (Err at) value is later = absurd (cc)
-    behind_first (Ok m) value is later =
-        let part = operation_part program scene done o in
-        let cells : part.cells ≡ m = gave scene o.statement o.number part.over part.cells m value in
-        let enough : n < length program.initial = slice_get_within program.initial n o from.0 in
-        let whole : IsMapOf (place_count scene) o.kind m = subst (IsMapOf (place_count scene) o.kind) cells (map_whole program scene n done inputs all (omega (arith, enough)) o are.0) in
-        let next : AreDone program (place_count scene) (n + 1) (done.initial ++ m ∷ []) = one_more_done program (place_count scene) n done.initial o m all from.0 whole in
-        let Q : ℕ → Type 0 = λ k. AreDone program (place_count scene) k after.initial in
-        let same : n + 1 + length more ≡ n + length (o ∷ more) = omega arith in
-        subst Q same (later m next is)
+-- What holds behind n operations holds behind all, where the map of each is whole and one more keeps it.
+module _ (program : Program) (scene : Scene) (s : Span) (all : List Operation) (Holds : ℕ → Done → Type 0)
+    (whole : (n : ℕ) (done : Done) (o : Operation) → Holds n done → slice_get all n ≡ Some o → IsMapOf (place_count scene) o.kind (operation_part program scene done o).cells)
+    (next : (n : ℕ) (done : Done) (o : Operation) (m : WholeMap) → Holds n done → slice_get all n ≡ Some o → IsMapOf (place_count scene) o.kind m → Holds (n + 1) (with_map s done m)) where
+  pub values_hold : (n : ℕ) (done after : Done) (operations : List Operation) → Holds n done → AreFrom all n operations → operation_values program scene s done operations ≡ Ok after → Holds (n + length operations) after
+  values_hold n done after [] holds from is =
+      let same : done ≡ after = cc in let here : n ≡ n + 0 = omega arith in subst (λ k. Holds k after) here (subst (Holds n) same holds)
+  values_hold n done after (o ∷ more) holds from is =
+      behind_first (operation_value program scene done o) refl is (λ m holds gives. values_hold (n + 1) (with_map s done m) after more holds from.1 gives)
+    where
+      behind_first : (r : Result WholeMap OverAt) → operation_value program scene done o ≡ r → (r >>= λ m. operation_values program scene s (with_map s done m) more) ≡ Ok after →
+          ((m : WholeMap) → Holds (n + 1) (with_map s done m) → operation_values program scene s (with_map s done m) more ≡ Ok after → Holds (n + 1 + length more) after) → Holds (n + length (o ∷ more)) after
+      behind_first (Err at) value is later = absurd (cc)
+      behind_first (Ok m) value is later =
+          let part = operation_part program scene done o in
+          let cells : part.cells ≡ m = gave scene o.statement o.number part.over part.cells m value in
+          let one : IsMapOf (place_count scene) o.kind m = subst (IsMapOf (place_count scene) o.kind) cells (whole n done o holds from.0) in
+          let same : n + 1 + length more ≡ n + length (o ∷ more) = omega arith in
+          subst (λ k. Holds k after) same (later m (next n done o m holds from.0 one) is)
 
 -- ---- kept maps
 
 -- each map that is kept of these operations is whole
-pub kept_whole : (program : Program) (places step n count : ℕ) (maps : List WholeMap) (operations : List Operation) → AreDone program places count maps → n + length operations ≤ count → AreFrom program n operations → All (IsWholeMap program places) (kept_maps step maps n operations)
+pub kept_whole : (program : Program) (places step n count : ℕ) (maps : List WholeMap) (operations : List Operation) → AreDone (operations_at program step) places count maps → n + length operations ≤ count → AreFrom (operations_at program step) n operations → All (IsWholeMap program places) (kept_maps step maps n operations)
 kept_whole program places step n count maps [] all few from = All-nil (IsWholeMap program places)
 kept_whole program places step n count maps (o ∷ more) all few from = one_kept o.kept (kept_whole program places step (n + 1) count maps more all (omega arith) from.1)
   where

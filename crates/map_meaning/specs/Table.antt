@@ -92,20 +92,23 @@ is_file (ask.Table kind) = true
 is_file (ask.Series kind) = true
 is_file _ = false
 
+-- a row without its first operand
+abbrev pub behind_file : Row → Row
+behind_file row = record {
+  word = row.word;
+  meant = row.meant;
+  first = row.second;
+  second = row.further;
+  further = row.further;
+  least = row.least - 1;
+  most = row.most - 1;
+  gives = row.gives;
+  stands = row.stands;
+}
+
 -- what a row asks of the operands that are maps: those behind the name of a table or of a series
 abbrev pub map_row : Row → Row
-map_row row =
-    if is_file row.first then record {
-      word = row.word;
-      meant = row.meant;
-      first = row.second;
-      second = row.further;
-      further = row.further;
-      least = row.least - 1;
-      most = row.most - 1;
-      gives = row.gives;
-      stands = row.stands;
-    } else row
+map_row row = if is_file row.first then behind_file row else row
 
 -- what the operand at this place is asked
 abbrev pub ask_at : Row → ℕ → Ask

@@ -16,6 +16,7 @@ use Rattle.cell_values.specs.Conversion.{conversion_of, has_direction, has_truth
 use Rattle.cell_values.specs.Rounding.{IsNearest, nearest}
 use Rattle.cell_values.proofs.Nearest.{nearest-IsNearest}
 use Rattle.cell_values.proofs.Readings.{test-from_value}
+use Rattle.time_series.specs.Values.{cell_in_row, cells_at}
 use Rattle.map_meaning.specs.declared.op.Op.{Op}
 use Rattle.map_meaning.specs.declared.op.Op.TheVariants as op
 use Rattle.map_meaning.specs.Laws.{HaveKindsAt}
@@ -24,7 +25,7 @@ use Rattle.map_meaning.specs.Maps.{CellAt}
 use Rattle.map_meaning.specs.Missing.{at_cell}
 use Rattle.map_meaning.specs.Overs.{may_be_over}
 use Rattle.map_meaning.specs.Rules.{Setting, kind_at, operand_at, outcome_of, rule_of}
-use Rattle.map_meaning.specs.Table.{HasKinds, is_kind, row_of}
+use Rattle.map_meaning.specs.Table.{HasKinds, is_kind, map_row, row_of}
 use Rattle.map_meaning.specs.Whole.{whole_above, whole_below, whole_nearest}
 use Rattle.map_meaning.proofs.Callers.{same_kind}
 use Rattle.map_meaning.proofs.NearWhole.{above, below}
@@ -154,7 +155,7 @@ one_there n high h = let parts = and_parts (nat_le 1 n) (nat_le n high) h in gri
 scalar_cell : (k : Kind) (x : Cell) → is_kind Scalar k ≡ true → IsCell k x → IsCell Scalar x
 scalar_cell k x same h = subst (λ j. IsCell j x) (sym (same_kind Scalar k same)) h
 
-stays : (o : Op) (setting : Setting) (kind : Kind) (operands : List CellAt) (place : ℕ) → may_be_over o ≡ false → HasKinds (row_of o) setting.kinds kind → HaveKindsAt setting.kinds operands place → IsOk (outcome_of o setting operands place)
+stays : (o : Op) (setting : Setting) (kind : Kind) (operands : List CellAt) (place : ℕ) → may_be_over o ≡ false → HasKinds (map_row (row_of o)) setting.kinds kind → HaveKindsAt setting.kinds operands place → IsOk (outcome_of o setting operands place)
 unfolding row_of rule_of
 stays op.CopyOf setting kind operands place may h cells = refl
 stays op.Add setting kind operands place may h cells = absurd (cc)
@@ -189,6 +190,16 @@ stays op.Defined setting kind operands place may h cells = defined_ok (operand_a
 stays op.ToBoolean setting kind operands place may h cells = let there = one_there (length setting.kinds) 1 h.count in boolean_from (kind_at setting.kinds 0) (operand_at operands 0 place) (h.each 0 there) (cells 0 there)
 stays op.ToDirectional setting kind operands place may h cells = let there = one_there (length setting.kinds) 1 h.count in direction_from (kind_at setting.kinds 0) (operand_at operands 0 place) (h.each 0 there) (cells 0 there)
 stays op.ToScalar setting kind operands place may h cells = scalar_from (kind_at setting.kinds 0) (operand_at operands 0 place) (cells 0 (one_there (length setting.kinds) 1 h.count))
+stays op.LookupBoolean setting kind operands place may h cells = refl
+stays op.LookupNominal setting kind operands place may h cells = refl
+stays op.LookupOrdinal setting kind operands place may h cells = refl
+stays op.LookupScalar setting kind operands place may h cells = refl
+stays op.LookupDirectional setting kind operands place may h cells = refl
+stays op.TimeInputBoolean setting kind operands place may h cells = cell_ok (λ id. cell_in_row (cells_at setting.series.rows setting.step) id) (operand_at operands 0 place)
+stays op.TimeInputNominal setting kind operands place may h cells = cell_ok (λ id. cell_in_row (cells_at setting.series.rows setting.step) id) (operand_at operands 0 place)
+stays op.TimeInputOrdinal setting kind operands place may h cells = cell_ok (λ id. cell_in_row (cells_at setting.series.rows setting.step) id) (operand_at operands 0 place)
+stays op.TimeInputScalar setting kind operands place may h cells = cell_ok (λ id. cell_in_row (cells_at setting.series.rows setting.step) id) (operand_at operands 0 place)
+stays op.TimeInputDirectional setting kind operands place may h cells = cell_ok (λ id. cell_in_row (cells_at setting.series.rows setting.step) id) (operand_at operands 0 place)
 
 pub returns : goal.returns
 returns c o setting kind operands places place may h cells below = stays o setting kind operands place may h (cells place below)

@@ -11,11 +11,11 @@ use Rattle.cell_values.specs.Rounding.{cut_quotient, nearest, nearest_quotient}
 use Rattle.tile_map.specs.Parts.{Outcome}
 use Rattle.map_meaning.specs.declared.op.Op.{Op}
 use Rattle.map_meaning.specs.declared.op.Op.TheVariants as op
-use Rattle.map_meaning.specs.Local.{if_then_of, is_either, is_one, truth}
+use Rattle.map_meaning.specs.Local.{lookup_of, timeinput_of, if_then_of, is_either, is_one, truth}
 use Rattle.map_meaning.specs.Maps.{CellAt}
 use Rattle.map_meaning.specs.Missing.{at_cell, spreads_missing}
 use Rattle.map_meaning.specs.Rules.{Setting, kind_at, operand_at, outcome_of, rule_of}
-use Rattle.map_meaning.specs.Table.{row_of}
+use Rattle.map_meaning.specs.Table.{map_row, row_of}
 use Rattle.map_meaning.specs.Whole.{whole_above, whole_below, whole_nearest}
 use Rattle.map_meaning.proofs.laws.missing_operands_spread.Goals as goal
 
@@ -72,7 +72,7 @@ of_then c x (inr h) = ap (if_then_of c) h ∙ then_second c
 -- ---- the operations
 
 spreads : (o : Op) (setting : Setting) (operands : List CellAt) (place i : ℕ) →
-    spreads_missing o ≡ true → i < (row_of o).least → operand_at operands i place ≡ Mv → outcome_of o setting operands place ≡ Ok Mv
+    spreads_missing o ≡ true → i < (map_row (row_of o)).least → operand_at operands i place ≡ Mv → outcome_of o setting operands place ≡ Ok Mv
 unfolding row_of rule_of
 spreads op.CopyOf setting operands place i spread below gone = ap Ok (only_one (λ i. operand_at operands i place ≡ Mv) i below gone)
 spreads op.Add setting operands place i spread below gone = of_two (λ a b. cell_of_number Scalar (a +ℤ b)) (operand_at operands 0 place) (operand_at operands 1 place) (one_of_two (λ i. operand_at operands i place ≡ Mv) i below gone)
@@ -107,6 +107,16 @@ spreads op.ToNominal setting operands place i spread below gone = ap (conversion
 spreads op.ToOrdinal setting operands place i spread below gone = ap (conversion_of (kind_at setting.kinds 0) Ordinal) (only_one (λ i. operand_at operands i place ≡ Mv) i below gone)
 spreads op.ToScalar setting operands place i spread below gone = ap (conversion_of (kind_at setting.kinds 0) Scalar) (only_one (λ i. operand_at operands i place ≡ Mv) i below gone)
 spreads op.ToDirectional setting operands place i spread below gone = ap (conversion_of (kind_at setting.kinds 0) Directional) (only_one (λ i. operand_at operands i place ≡ Mv) i below gone)
+spreads op.LookupBoolean setting operands place i spread below gone = ap (λ x. lookup_of setting.table setting.kinds x (operand_at operands 1 place) (operand_at operands 2 place) (operand_at operands 3 place)) (only_one (λ i. operand_at operands i place ≡ Mv) i below gone)
+spreads op.LookupNominal setting operands place i spread below gone = ap (λ x. lookup_of setting.table setting.kinds x (operand_at operands 1 place) (operand_at operands 2 place) (operand_at operands 3 place)) (only_one (λ i. operand_at operands i place ≡ Mv) i below gone)
+spreads op.LookupOrdinal setting operands place i spread below gone = ap (λ x. lookup_of setting.table setting.kinds x (operand_at operands 1 place) (operand_at operands 2 place) (operand_at operands 3 place)) (only_one (λ i. operand_at operands i place ≡ Mv) i below gone)
+spreads op.LookupScalar setting operands place i spread below gone = ap (λ x. lookup_of setting.table setting.kinds x (operand_at operands 1 place) (operand_at operands 2 place) (operand_at operands 3 place)) (only_one (λ i. operand_at operands i place ≡ Mv) i below gone)
+spreads op.LookupDirectional setting operands place i spread below gone = ap (λ x. lookup_of setting.table setting.kinds x (operand_at operands 1 place) (operand_at operands 2 place) (operand_at operands 3 place)) (only_one (λ i. operand_at operands i place ≡ Mv) i below gone)
+spreads op.TimeInputBoolean setting operands place i spread below gone = ap (timeinput_of setting.series setting.step) (only_one (λ i. operand_at operands i place ≡ Mv) i below gone)
+spreads op.TimeInputNominal setting operands place i spread below gone = ap (timeinput_of setting.series setting.step) (only_one (λ i. operand_at operands i place ≡ Mv) i below gone)
+spreads op.TimeInputOrdinal setting operands place i spread below gone = ap (timeinput_of setting.series setting.step) (only_one (λ i. operand_at operands i place ≡ Mv) i below gone)
+spreads op.TimeInputScalar setting operands place i spread below gone = ap (timeinput_of setting.series setting.step) (only_one (λ i. operand_at operands i place ≡ Mv) i below gone)
+spreads op.TimeInputDirectional setting operands place i spread below gone = ap (timeinput_of setting.series setting.step) (only_one (λ i. operand_at operands i place ≡ Mv) i below gone)
 
 pub returns : goal.returns
 returns c = spreads

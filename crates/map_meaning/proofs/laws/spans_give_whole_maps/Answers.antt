@@ -1,64 +1,159 @@
-use Rattle.std.proofs.Common.{◌≡◌, ℕ, suc, ◌+◌, ◌*◌, ◌-◌, List, [], ◌∷◌, length, take, refl, sym, ap, subst, ◌∙◌, Ok, Err, Result, arith}
-use Rattle.std.specs.Prelude.{All, Some, slice_get, slice_range}
-use Rattle.std.proofs.lemmas.List.Elements.{All-nil}
+use Rattle.std.proofs.Common.{◌≡◌, ℕ, zero, suc, ◌+◌, ◌-◌, ◌*◌, ◌<◌, ◌≤◌, List, [], ◌∷◌, ◌++◌, length, take, refl, sym, ap, subst, ◌∙◌, Ok, Err, Result, arith}
+use Rattle.std.specs.Prelude.{All, Some, None, Option, slice_get, slice_range, slice_index_or}
+use Rattle.std.proofs.lemmas.List.Elements.{All-append, All-nil}
+use Rattle.std.proofs.lemmas.Option.{slice_get_within}
 use Rattle.std.proofs.Math.Seq.{take-length}
+use Rattle.tile_map.specs.Parts.{tabulate}
 use Rattle.map_meaning.specs.declared.known.Known.{Known}
 use Rattle.map_meaning.specs.declared.known.OverAt.{OverAt}
+use Rattle.map_meaning.specs.declared.known.Span.{Span}
 use Rattle.map_meaning.specs.declared.known.Span.TheVariants as span
+use Rattle.map_meaning.specs.declared.known.StageEnd.{StageEnd}
+use Rattle.map_meaning.specs.declared.known.StepMap.{StepMap}
+use Rattle.map_meaning.specs.declared.program.InputUse.{InputUse}
 use Rattle.map_meaning.specs.declared.program.Operation.{Operation}
 use Rattle.map_meaning.specs.declared.program.Program.{Program}
-use Rattle.map_meaning.specs.Evaluation.{Done, operation_values}
-use Rattle.map_meaning.specs.Laws.{IsWholeMap}
-use Rattle.map_meaning.specs.Programs.{IsWellFormed}
-use Rattle.map_meaning.specs.declared.known.StepMap.{StepMap}
-use Rattle.map_meaning.specs.Spans.{AreInputMaps, kept_maps, scene_of, stage_of, told_of}
-use Rattle.map_meaning.proofs.WholeMaps.{AreDone, AreFrom, kept_whole, none_done, values_done}
+use Rattle.map_meaning.specs.Evaluation.{Done, nothing_done, operation_part, operation_values}
+use Rattle.map_meaning.specs.Laws.{IsWholeMap, operations_at}
+use Rattle.map_meaning.specs.Maps.{IsMapOf, WholeMap, nth}
+use Rattle.map_meaning.specs.Programs.{IsBelow, IsOperation, IsStepOperation, IsWellFormed, is_kept}
+use Rattle.map_meaning.specs.Scenes.{Scene, place_count}
+use Rattle.map_meaning.specs.Spans.{AreSteps, HasStacks, KnowsBefore, Knows, done_before, done_next, kept_map, kept_maps, scene_of, span_operations, stage_of, told_of, told_steps, told_then}
+use Rattle.map_meaning.proofs.WholeMaps.{AreDone, AreFrom, AreHeld, HasInputs, HasStacksAt, IsDoneNow, IsReadNow, from_list, kept_whole, map_whole, none_done, one_more_done, operation_of, read_now, scene_inputs, sound_initial, sound_now, step_operation_of, values_hold}
+use Rattle.map_meaning.proofs.Tabulated.{nth_tabulate}
 use Rattle.map_meaning.proofs.laws.spans_give_whole_maps.Goals as goal
 
--- the operations of a list stand at their numbers
-from_list : (program : Program) (n : ℕ) (operations : List Operation) → ((k : ℕ) → slice_get program.initial (n + k) ≡ slice_get operations k) → AreFrom program n operations
-from_list program n [] at = tt
-from_list program n (o ∷ more) at = (first, from_list program (n + 1) more others)
-  where
-    first : slice_get program.initial n ≡ Some o
-    first = let same : n + 0 ≡ n = omega arith in subst (λ k. slice_get program.initial k ≡ Some o) same (at 0)
-
-    others : (k : ℕ) → slice_get program.initial (n + 1 + k) ≡ slice_get more k
-    others k = let same : n + suc k ≡ n + 1 + k = omega arith in subst (λ j. slice_get program.initial j ≡ slice_get more k) same (at (suc k))
-
--- what is told of some operations
-abbrev told_maps : List Operation → Result Done OverAt → List StepMap
-told_maps operations (Ok done) = kept_maps 0 done.initial 0 operations
-told_maps operations (Err at) = []
-
--- the maps that are told are whole
-told_whole : (program : Program) (known : Known) (end : ℕ) (r : Result Done OverAt) → IsWellFormed program → AreInputMaps (known.rows * known.cols) program.inputs known.maps →
-    operation_values program (scene_of known 0) (span.Initial 0 end) (record { initial = [] }) program.initial ≡ r → All (IsWholeMap program (known.rows * known.cols)) (told_maps program.initial r)
-told_whole program known end (Err at) formed inputs is = All-nil (IsWholeMap program (known.rows * known.cols))
-told_whole program known end (Ok done) formed inputs is =
-    let places = known.rows * known.cols in
-    let from = from_list program 0 program.initial (λ k. let same : 0 + k ≡ k = omega arith in ap (slice_get program.initial) same) in
-    let all : AreDone program places (0 + length program.initial) done.initial = values_done program (scene_of known 0) 0 end 0 (record { initial = [] }) done program.initial inputs (none_done program places) formed.operations from is in
-    kept_whole program places 0 0 (0 + length program.initial) done.initial program.initial all (omega arith) from
+-- all of a list
+all_from : (operations : List Operation) → AreFrom operations 0 operations
+all_from operations = from_list operations 0 operations (λ k. let same : 0 + k ≡ k = omega arith in ap (slice_get operations) same)
 
 -- the operations of the whole span
 whole_range : (xs : List Operation) → slice_range xs 0 (length xs) ≡ xs
 whole_range xs = let same : length xs - 0 ≡ length xs = omega arith in ap (λ n. take n xs) same ∙ take-length xs
 
--- the one stage of `initial`
-stage_whole : (program : Program) (known : Known) → IsWellFormed program → AreInputMaps (known.rows * known.cols) program.inputs known.maps → All (IsWholeMap program (known.rows * known.cols)) (stage_of program (span.Initial 0 (length program.initial)) known).maps
-unfolding stage_of
-stage_whole program known formed inputs =
-    let end = length program.initial in
-    let P : List Operation → Type 0 = λ ops. All (IsWholeMap program (known.rows * known.cols)) (told_maps ops (operation_values program (scene_of known 0) (span.Initial 0 end) (record { initial = [] }) ops)) in
-    same_maps (operation_values program (scene_of known 0) (span.Initial 0 end) (record { initial = [] }) (slice_range program.initial 0 end))
-    (subst P (sym (whole_range program.initial)) (told_whole program known end (operation_values program (scene_of known 0) (span.Initial 0 end) (record { initial = [] }) program.initial) formed inputs refl))
-  where
-    same_maps : (r : Result Done OverAt) → All (IsWholeMap program (known.rows * known.cols)) (told_maps (slice_range program.initial 0 (length program.initial)) r) → All (IsWholeMap program (known.rows * known.cols)) (told_of program (span.Initial 0 (length program.initial)) 0 r).maps
-    same_maps (Ok done) all = all
-    same_maps (Err at) all = all
+module _ (program : Program) (known : Known) (formed : IsWellFormed program) where
+  abbrev places : ℕ
+  places = known.rows * known.cols
+
+  -- ---- `initial`
+
+  module _ (inputs : HasInputs program (scene_of program.inputs known 0)) (end : ℕ) where
+    abbrev scene : Scene
+    scene = scene_of program.inputs known 0
+
+    abbrev Holds : ℕ → Done → Type 0
+    Holds n done = AreDone program.initial places n done.initial
+
+    initial_whole : (n : ℕ) (done : Done) (o : Operation) → Holds n done → slice_get program.initial n ≡ Some o → IsMapOf places o.kind (operation_part program scene done o).cells
+    initial_whole n done o all is =
+        let within : n < length program.initial = slice_get_within program.initial n o is in
+        let here : 0 + n ≡ n = omega arith in
+        let formed_o = subst (λ j. IsOperation program j o) here (operation_of program 0 n program.initial o formed.operations is) in
+        map_whole program scene done inputs (IsBelow program n) (sound_initial program scene done inputs n (omega arith) all) o (is_kept program n) formed_o
+
+    initial_next : (n : ℕ) (done : Done) (o : Operation) (m : WholeMap) → Holds n done → slice_get program.initial n ≡ Some o → IsMapOf places o.kind m → AreDone program.initial places (n + 1) (done.initial ++ m ∷ [])
+    initial_next n done o m all is whole = one_more_done program.initial places n done.initial o m all is whole
+
+    -- the maps that are told are whole
+    told_whole : (operations : List Operation) (r : Result Done OverAt) → operations ≡ program.initial → operation_values program scene (span.Initial 0 end) nothing_done operations ≡ r →
+        slice_range program.initial 0 end ≡ program.initial → All (IsWholeMap program places) (told_of program (span.Initial 0 end) 0 r).maps
+    told_whole operations (Err at) same is range = All-nil (IsWholeMap program places)
+    told_whole operations (Ok done) same is range =
+        let gives : operation_values program scene (span.Initial 0 end) nothing_done program.initial ≡ Ok done = ap (operation_values program scene (span.Initial 0 end) nothing_done) (sym same) ∙ is in
+        let all : AreDone program.initial places (0 + length program.initial) done.initial = values_hold program scene (span.Initial 0 end) program.initial Holds initial_whole initial_next 0 nothing_done done program.initial (none_done program.initial places) (all_from program.initial) gives in
+        let P : List Operation → Type 0 = λ ops. All (IsWholeMap program places) (kept_maps 0 done.initial 0 ops) in
+        subst P (sym range) (kept_whole program places 0 0 (0 + length program.initial) done.initial program.initial all (omega arith) (all_from program.initial))
+
+  -- the one stage of `initial`
+  stage_whole : Knows program (span.Initial 0 (length program.initial)) known → All (IsWholeMap program places) (stage_of program (span.Initial 0 (length program.initial)) known).maps
+  unfolding stage_of
+  stage_whole knows =
+      let inputs = scene_inputs program known 0 knows.maps knows.tables knows.series in
+      told_whole inputs (length program.initial) (slice_range program.initial 0 (length program.initial)) (operation_values program (scene_of program.inputs known 0) (span.Initial 0 (length program.initial)) nothing_done (slice_range program.initial 0 (length program.initial))) (whole_range program.initial) refl (whole_range program.initial)
+
+  -- ---- steps
+
+  module _ (first last : ℕ) (steps : AreSteps program first last (last + 1)) (knows : Knows program (span.Steps first last) known) where
+    abbrev s : Span
+    s = span.Steps first last
+
+    -- the scene of one of the steps
+    inputs_at : (step : ℕ) → HasInputs program (scene_of program.inputs known step)
+    inputs_at step = scene_inputs program known step knows.maps knows.tables knows.series
+
+    module _ (step : ℕ) (from : first ≤ step) (to : step ≤ last) where
+      abbrev HoldsNow : ℕ → Done → Type 0
+      HoldsNow n done = IsDoneNow program places step n done
+
+      stacks_at : HasStacksAt program (scene_of program.inputs known step)
+      stacks_at n input is role = knows.outside.stacks n step input is role from to
+
+      step_whole : (n : ℕ) (done : Done) (o : Operation) → HoldsNow n done → slice_get program.dynamic n ≡ Some o → IsMapOf places o.kind (operation_part program (scene_of program.inputs known step) done o).cells
+      step_whole n done o all is =
+          let within : n < length program.dynamic = slice_get_within program.dynamic n o is in
+          let here : 0 + n ≡ n = omega arith in
+          let formed_o = subst (λ j. IsStepOperation program j o) here (step_operation_of program 0 n program.dynamic o formed.step_operations is) in
+          let sound = sound_now program (scene_of program.inputs known step) done n (inputs_at step) stacks_at formed.operations (omega (arith, steps.some, from)) (omega (arith, to, steps.there, formed.few_steps)) (omega arith) all in
+          map_whole program (scene_of program.inputs known step) done (inputs_at step) (IsReadNow program n) sound o o.kept (read_now program n o is formed_o)
+
+      step_next : (n : ℕ) (done : Done) (o : Operation) (m : WholeMap) → HoldsNow n done → slice_get program.dynamic n ≡ Some o → IsMapOf places o.kind m → HoldsNow (n + 1) (record { initial = done.initial; dynamic = done.dynamic ++ m ∷ []; last = done.last })
+      step_next n done o m all is whole = record { now = one_more_done program.dynamic places n done.dynamic o m all.now is whole; initial = all.initial; carried = all.carried }
+
+      step_done : (done after : Done) → HoldsNow 0 done → operation_values program (scene_of program.inputs known step) s done program.dynamic ≡ Ok after → HoldsNow (0 + length program.dynamic) after
+      step_done done after all is = values_hold program (scene_of program.inputs known step) s program.dynamic HoldsNow step_whole step_next 0 done after program.dynamic all (all_from program.dynamic) is
+
+      -- the operations of a step
+      operations_now : operations_at program step ≡ program.dynamic
+      operations_now = by_step step (omega (arith, steps.some, from))
+        where
+          by_step : (step : ℕ) → 1 ≤ step → operations_at program step ≡ program.dynamic
+          by_step zero some = absurd (omega arith)
+          by_step (suc k) some = refl
+
+      step_kept : (after : Done) → HoldsNow (0 + length program.dynamic) after → All (IsWholeMap program places) (kept_maps step after.dynamic 0 program.dynamic)
+      step_kept after all =
+          kept_whole program places step 0 (0 + length program.dynamic) after.dynamic program.dynamic (subst (λ ops. AreDone ops places (0 + length program.dynamic) after.dynamic) (sym operations_now) all.now) (omega arith)
+          (subst (λ ops. AreFrom ops 0 program.dynamic) (sym operations_now) (all_from program.dynamic))
+
+    -- behind a step the next one may be done
+    next_done : (step : ℕ) (after : Done) → IsDoneNow program places step (0 + length program.dynamic) after → IsDoneNow program places (step + 1) 0 (done_next after)
+    next_done step after all = record {
+      now = none_done program.dynamic places;
+      initial = all.initial;
+      carried = λ behind k o is carried. all.now.each k o (let within : k < length program.dynamic = slice_get_within program.dynamic k o is in omega arith) is;
+    }
+
+    -- the maps that steps tell are whole
+    steps_whole : (more step : ℕ) (done : Done) → first ≤ step → step + more ≤ last + 1 → IsDoneNow program places step 0 done → All (IsWholeMap program places) (told_steps program s known done step more).maps
+    steps_whole zero step done from to all = All-nil (IsWholeMap program places)
+    steps_whole (suc more) step done from to all =
+        by_value (operation_values program (scene_of program.inputs known step) s done program.dynamic) refl
+        (λ after here. steps_whole more (step + 1) (done_next after) (omega arith) (omega arith) (next_done step after here))
+      where
+        by_value : (r : Result Done OverAt) → operation_values program (scene_of program.inputs known step) s done program.dynamic ≡ r →
+            ((after : Done) → IsDoneNow program places step (0 + length program.dynamic) after → All (IsWholeMap program places) (told_steps program s known (done_next after) (step + 1) more).maps) →
+            All (IsWholeMap program places) (told_then program s step r (λ after. told_steps program s known (done_next after) (step + 1) more)).maps
+        by_value (Err at) is later = All-nil (IsWholeMap program places)
+        by_value (Ok after) is later =
+            let here = step_done step from (omega arith) done after all is in
+            All-append (IsWholeMap program places) (kept_maps step after.dynamic 0 program.dynamic) (told_steps program s known (done_next after) (step + 1) more).maps (step_kept step from (omega arith) after here)
+            (later after here)
+
+    -- what is done before the first of them
+    begun : IsDoneNow program places first 0 (done_before program s known)
+    begun = record {
+      now = none_done program.dynamic places;
+      initial = λ k o is kept. subst (IsMapOf places o.kind) (sym (nth_tabulate (kept_map known.initial) (length program.initial) k (slice_get_within program.initial k o is))) (knows.outside.initial k o is kept);
+      carried = λ behind k o is carried. subst (IsMapOf places o.kind) (sym (nth_tabulate (kept_map known.last) (length program.dynamic) k (slice_get_within program.dynamic k o is))) (knows.outside.carried behind k o is carried);
+    }
+
+    span_whole : All (IsWholeMap program places) (stage_of program s known).maps
+    unfolding stage_of
+    span_whole = steps_whole (last + 1 - first) first (done_before program s known) (omega arith) (omega (arith, steps.order)) begun
 
 pub returns : goal.returns
 returns c program (span.Initial first end) known block formed is knows =
-    let P : ℕ → ℕ → Type 0 = λ first end. All (IsWholeMap program (known.rows * known.cols)) (stage_of program (span.Initial first end) known).maps in
-    subst (λ first. P first end) (sym is.0) (subst (P 0) (sym is.1) (stage_whole program known formed knows.maps))
+    let P : ℕ → ℕ → Type 0 = λ first end. Knows program (span.Initial first end) known → All (IsWholeMap program (known.rows * known.cols)) (stage_of program (span.Initial first end) known).maps in
+    subst (λ first. P first end) (sym is.0) (subst (P 0) (sym is.1) (stage_whole program known formed)) knows
+returns c program (span.Steps first last) known block formed is knows =
+    span_whole program known formed first last (record { some = is.some; order = is.order; there = is.there; few = omega (arith, is.some) }) knows

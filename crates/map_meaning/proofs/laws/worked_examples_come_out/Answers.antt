@@ -10,15 +10,15 @@ use Rattle.map_meaning.specs.declared.tree.Tree.{Tree}
 use Rattle.map_meaning.specs.declared.tree.Tree.TheVariants as tree
 use Rattle.map_meaning.specs.declared.tree.Tree.TheOpen.{Tree-F}
 use Rattle.map_meaning.specs.Evaluation.{operation_part}
-use Rattle.map_meaning.specs.Examples.{grid, map_named, named, scene_over, statement, unassigned}
+use Rattle.map_meaning.specs.Examples.{after_beginning, after_step, grid, map_named, named, scene_at, scene_over, statement, unassigned, unit, whole_scalar}
 use Rattle.map_meaning.specs.declared.tree.Statement.{Statement}
 use Rattle.map_meaning.specs.Scenes.{Scene}
 use Rattle.map_meaning.specs.Sections.{After, after_statements, assigned}
 use Rattle.map_meaning.specs.Rules.{rule_of, kind_at}
 use Rattle.map_meaning.specs.Spans.{stage_of}
 use Rattle.map_meaning.specs.Table.{HasKinds, allows, ask_at, common_kind, map_row, row_of}
-use Rattle.map_meaning.specs.Trees.{TreeMeaning, meaning_of, meaning_level}
-use Rattle.map_meaning.proofs.Callers.{after_statements-map, after_statements-over, meaning_of-Call, meaning_of-Input, meaning_of-Name}
+use Rattle.map_meaning.specs.Trees.{Environment, TreeMeaning, meaning_of, meaning_level}
+use Rattle.map_meaning.proofs.Callers.{after_statements-map, after_statements-over, meaning_of-Call, meaning_of-Input, meaning_of-Name, meaning_of-Number}
 use Rattle.map_meaning.proofs.laws.worked_examples_come_out.Goals as goal
 
 pub returns-clause-cells : goal.returns-clause-cells
@@ -203,3 +203,77 @@ returns-clause-files c = record { intervals = refl; classes = refl; columns = re
 pub returns-clause-spans : goal.returns-clause-spans
 unfolding stage_of operation_part rule_of
 returns-clause-spans c = record { before = refl; summed = refl; over_from = refl; told_before = refl; stacked = refl; counted = refl }
+
+-- ---- statements at steps
+
+-- a number
+number_means : meaning_of unit ≡ meaning_level (Tree-F.Number Scalar (whole_scalar 1))
+number_means = meaning_of-Number Scalar (whole_scalar 1)
+
+-- one map of one cell
+abbrev one_cell : ℕ → List Cell
+one_cell n = whole_scalar n ∷ []
+
+-- what stands after the section `initial`
+abbrev begun : After
+begun = assigned (assigned (record { names = unassigned; maps = [] }) (record { target = codes "A"; value = unit }) (one_cell 1)) (record { target = codes "B"; value = unit }) (one_cell 1)
+
+begun_is : after_beginning ≡ Ok begun
+begun_is =
+    after_statements-map (scene_at 0) 1 (record { names = unassigned; maps = [] }) (record { target = codes "A"; value = unit }) (record { target = codes "B"; value = unit } ∷ []) _ (one_cell 1) number_means refl
+    ∙ after_statements-map (scene_at 0) 2 (assigned (record { names = unassigned; maps = [] }) (record { target = codes "A"; value = unit }) (one_cell 1)) (record { target = codes "B"; value = unit }) [] _ (one_cell 1) number_means refl
+
+-- the statements of a step
+abbrev kept_b : Statement
+kept_b = record { target = codes "X"; value = named (codes "B") }
+
+abbrev a_to_b : Statement
+a_to_b = record { target = codes "B"; value = named (codes "A") }
+
+abbrev a_and_b : Statement
+a_and_b = statement (codes "A") op.Add (named (codes "A")) (named (codes "B"))
+
+-- what stands after a step that begins with these values of B and A, where A and A are this together
+abbrev stepped : Environment → ℕ → ℕ → ℕ → After
+stepped names b a sum = assigned (assigned (assigned (record { names = names; maps = [] }) kept_b (one_cell b)) a_to_b (one_cell a)) a_and_b (one_cell sum)
+
+-- a step where A and B are 1
+first_step : after_step 1 (Ok begun) ≡ Ok (stepped begun.names 1 1 2)
+unfolding rule_of
+first_step =
+    after_statements-map (scene_at 1) 3 (record { names = begun.names; maps = [] }) kept_b (a_to_b ∷ a_and_b ∷ []) _ (one_cell 1) (name_means (codes "B")) refl
+    ∙ (after_statements-map (scene_at 1) 4 (assigned (record { names = begun.names; maps = [] }) kept_b (one_cell 1)) a_to_b (a_and_b ∷ []) _ (one_cell 1) (name_means (codes "A")) refl
+    ∙ after_statements-map (scene_at 1) 5 (assigned (assigned (record { names = begun.names; maps = [] }) kept_b (one_cell 1)) a_to_b (one_cell 1)) a_and_b [] _ (one_cell 2) (pair_means op.Add (named (codes "A")) (named (codes "B")) _ _ (name_means (codes "A")) (name_means (codes "B"))) refl)
+
+abbrev after_one : After
+after_one = stepped begun.names 1 1 2
+
+second_step : after_step 2 (Ok after_one) ≡ Ok (stepped after_one.names 1 2 4)
+unfolding rule_of
+second_step =
+    after_statements-map (scene_at 2) 3 (record { names = after_one.names; maps = [] }) kept_b (a_to_b ∷ a_and_b ∷ []) _ (one_cell 1) (name_means (codes "B")) refl
+    ∙ (after_statements-map (scene_at 2) 4 (assigned (record { names = after_one.names; maps = [] }) kept_b (one_cell 1)) a_to_b (a_and_b ∷ []) _ (one_cell 2) (name_means (codes "A")) refl
+    ∙ after_statements-map (scene_at 2) 5 (assigned (assigned (record { names = after_one.names; maps = [] }) kept_b (one_cell 1)) a_to_b (one_cell 2)) a_and_b [] _ (one_cell 4) (pair_means op.Add (named (codes "A")) (named (codes "B")) _ _ (name_means (codes "A")) (name_means (codes "B"))) refl)
+
+abbrev after_two : After
+after_two = stepped after_one.names 1 2 4
+
+third_step : after_step 3 (Ok after_two) ≡ Ok (stepped after_two.names 2 4 8)
+unfolding rule_of
+third_step =
+    after_statements-map (scene_at 3) 3 (record { names = after_two.names; maps = [] }) kept_b (a_to_b ∷ a_and_b ∷ []) _ (one_cell 2) (name_means (codes "B")) refl
+    ∙ (after_statements-map (scene_at 3) 4 (assigned (record { names = after_two.names; maps = [] }) kept_b (one_cell 2)) a_to_b (a_and_b ∷ []) _ (one_cell 4) (name_means (codes "A")) refl
+    ∙ after_statements-map (scene_at 3) 5 (assigned (assigned (record { names = after_two.names; maps = [] }) kept_b (one_cell 2)) a_to_b (one_cell 4)) a_and_b [] _ (one_cell 8) (pair_means op.Add (named (codes "A")) (named (codes "B")) _ _ (name_means (codes "A")) (name_means (codes "B"))) refl)
+
+-- the three steps, one after the other
+one_is : after_step 1 after_beginning ≡ Ok after_one
+one_is = ap (after_step 1) begun_is ∙ first_step
+
+two_is : after_step 2 (after_step 1 after_beginning) ≡ Ok after_two
+two_is = ap (after_step 2) one_is ∙ second_step
+
+three_is : after_step 3 (after_step 2 (after_step 1 after_beginning)) ≡ Ok (stepped after_two.names 2 4 8)
+three_is = ap (after_step 3) two_is ∙ third_step
+
+pub returns-clause-steps : goal.returns-clause-steps
+returns-clause-steps c = record { one = ap (map_named (codes "X")) one_is; two = ap (map_named (codes "X")) two_is; three = ap (map_named (codes "X")) three_is }
