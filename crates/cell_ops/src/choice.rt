@@ -23,17 +23,17 @@ pub struct Cover;
 pub struct Defined;
 
 impl CellRule for Copy {
-    ghost rule = { λ _ a _ _. copy_of a };
+    ghost rule = { λ _ a _ _ _. copy_of a };
 
-    fn at(&self, a: Cell, _b: Cell, _c: Cell) -> Result<Cell, Over> {
+    fn at(&self, a: Cell, _b: Cell, _c: Cell, _d: Cell) -> Result<Cell, Over> {
         Ok(a)
     }
 }
 
 impl CellRule for IfThen {
-    ghost rule = { λ _ a b _. if_then_of a b };
+    ghost rule = { λ _ a b _ _. if_then_of a b };
 
-    fn at(&self, a: Cell, b: Cell, _c: Cell) -> Result<Cell, Over> {
+    fn at(&self, a: Cell, b: Cell, _c: Cell, _d: Cell) -> Result<Cell, Over> {
         match a {
             Cell::Val(a) if is_one(a) => Ok(b),
             _ => Ok(Cell::Mv),
@@ -42,9 +42,9 @@ impl CellRule for IfThen {
 }
 
 impl CellRule for IfElse {
-    ghost rule = { λ _ a b c. if_else_of a b c };
+    ghost rule = { λ _ a b c _. if_else_of a b c };
 
-    fn at(&self, a: Cell, b: Cell, c: Cell) -> Result<Cell, Over> {
+    fn at(&self, a: Cell, b: Cell, c: Cell, _d: Cell) -> Result<Cell, Over> {
         match a {
             Cell::Mv => Ok(Cell::Mv),
             Cell::Val(a) => Ok(if is_one(a) { b } else { c }),
@@ -53,9 +53,9 @@ impl CellRule for IfElse {
 }
 
 impl CellRule for Cover {
-    ghost rule = { λ _ a b _. cover_of a b };
+    ghost rule = { λ _ a b _ _. cover_of a b };
 
-    fn at(&self, a: Cell, b: Cell, _c: Cell) -> Result<Cell, Over> {
+    fn at(&self, a: Cell, b: Cell, _c: Cell, _d: Cell) -> Result<Cell, Over> {
         match a {
             Cell::Mv => Ok(b),
             Cell::Val(_) => Ok(a),
@@ -64,9 +64,9 @@ impl CellRule for Cover {
 }
 
 impl CellRule for Defined {
-    ghost rule = { λ _ a _ _. defined_of a };
+    ghost rule = { λ _ a _ _ _. defined_of a };
 
-    fn at(&self, a: Cell, _b: Cell, _c: Cell) -> Result<Cell, Over> {
+    fn at(&self, a: Cell, _b: Cell, _c: Cell, _d: Cell) -> Result<Cell, Over> {
         match a {
             Cell::Mv => Ok(truth(false)),
             Cell::Val(_) => Ok(truth(true)),

@@ -31,9 +31,9 @@ pub struct Compared<T> {
 }
 
 impl<T: Comparison> CellRule for Compared<T> {
-    ghost rule = { λ s a b _. compared (T.holds s.comparison) a b };
+    ghost rule = { λ s a b _ _. compared (T.holds s.comparison) a b };
 
-    fn at(&self, a: Cell, b: Cell, _c: Cell) -> Result<Cell, Over> {
+    fn at(&self, a: Cell, b: Cell, _c: Cell, _d: Cell) -> Result<Cell, Over> {
         match (a, b) {
             (Cell::Val(a), Cell::Val(b)) => Ok(truth(self.comparison.test(a, b))),
             _ => Ok(Cell::Mv),

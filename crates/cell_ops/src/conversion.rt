@@ -38,65 +38,65 @@ struct Turned;
 struct DirectionAsItIs;
 
 impl CellRule for BooleanAsItIs {
-    ghost rule = { λ _ a _ _. conversion_of kind.Boolean kind.Boolean a };
+    ghost rule = { λ _ a _ _ _. conversion_of kind.Boolean kind.Boolean a };
 
-    fn at(&self, a: Cell, _b: Cell, _c: Cell) -> Result<Cell, Over> {
+    fn at(&self, a: Cell, _b: Cell, _c: Cell, _d: Cell) -> Result<Cell, Over> {
         to_kind(Kind::Boolean, Kind::Boolean, a)
     }
 }
 
 impl CellRule for Truth {
-    ghost rule = { λ _ a _ _. conversion_of kind.Scalar kind.Boolean a };
+    ghost rule = { λ _ a _ _ _. conversion_of kind.Scalar kind.Boolean a };
 
-    fn at(&self, a: Cell, _b: Cell, _c: Cell) -> Result<Cell, Over> {
+    fn at(&self, a: Cell, _b: Cell, _c: Cell, _d: Cell) -> Result<Cell, Over> {
         to_kind(Kind::Scalar, Kind::Boolean, a)
     }
 }
 
 impl CellRule for ClassAsItIs {
-    ghost rule = { λ _ a _ _. conversion_of kind.Nominal kind.Nominal a };
+    ghost rule = { λ _ a _ _ _. conversion_of kind.Nominal kind.Nominal a };
 
-    fn at(&self, a: Cell, _b: Cell, _c: Cell) -> Result<Cell, Over> {
+    fn at(&self, a: Cell, _b: Cell, _c: Cell, _d: Cell) -> Result<Cell, Over> {
         to_kind(Kind::Nominal, Kind::Nominal, a)
     }
 }
 
 impl CellRule for CutClass {
-    ghost rule = { λ _ a _ _. conversion_of kind.Scalar kind.Nominal a };
+    ghost rule = { λ _ a _ _ _. conversion_of kind.Scalar kind.Nominal a };
 
-    fn at(&self, a: Cell, _b: Cell, _c: Cell) -> Result<Cell, Over> {
+    fn at(&self, a: Cell, _b: Cell, _c: Cell, _d: Cell) -> Result<Cell, Over> {
         to_kind(Kind::Scalar, Kind::Nominal, a)
     }
 }
 
 impl CellRule for Millionths {
-    ghost rule = { λ _ a _ _. conversion_of kind.Nominal kind.Scalar a };
+    ghost rule = { λ _ a _ _ _. conversion_of kind.Nominal kind.Scalar a };
 
-    fn at(&self, a: Cell, _b: Cell, _c: Cell) -> Result<Cell, Over> {
+    fn at(&self, a: Cell, _b: Cell, _c: Cell, _d: Cell) -> Result<Cell, Over> {
         to_kind(Kind::Nominal, Kind::Scalar, a)
     }
 }
 
 impl CellRule for MillionthsAsTheyAre {
-    ghost rule = { λ _ a _ _. conversion_of kind.Scalar kind.Scalar a };
+    ghost rule = { λ _ a _ _ _. conversion_of kind.Scalar kind.Scalar a };
 
-    fn at(&self, a: Cell, _b: Cell, _c: Cell) -> Result<Cell, Over> {
+    fn at(&self, a: Cell, _b: Cell, _c: Cell, _d: Cell) -> Result<Cell, Over> {
         to_kind(Kind::Scalar, Kind::Scalar, a)
     }
 }
 
 impl CellRule for Turned {
-    ghost rule = { λ _ a _ _. conversion_of kind.Scalar kind.Directional a };
+    ghost rule = { λ _ a _ _ _. conversion_of kind.Scalar kind.Directional a };
 
-    fn at(&self, a: Cell, _b: Cell, _c: Cell) -> Result<Cell, Over> {
+    fn at(&self, a: Cell, _b: Cell, _c: Cell, _d: Cell) -> Result<Cell, Over> {
         to_kind(Kind::Scalar, Kind::Directional, a)
     }
 }
 
 impl CellRule for DirectionAsItIs {
-    ghost rule = { λ _ a _ _. conversion_of kind.Directional kind.Directional a };
+    ghost rule = { λ _ a _ _ _. conversion_of kind.Directional kind.Directional a };
 
-    fn at(&self, a: Cell, _b: Cell, _c: Cell) -> Result<Cell, Over> {
+    fn at(&self, a: Cell, _b: Cell, _c: Cell, _d: Cell) -> Result<Cell, Over> {
         to_kind(Kind::Directional, Kind::Directional, a)
     }
 }

@@ -12,9 +12,9 @@ pub struct Least;
 pub struct Greatest;
 
 impl CellRule for Least {
-    ghost rule = { λ _ a b _. min_of a b };
+    ghost rule = { λ _ a b _ _. min_of a b };
 
-    fn at(&self, a: Cell, b: Cell, _c: Cell) -> Result<Cell, Over> {
+    fn at(&self, a: Cell, b: Cell, _c: Cell, _d: Cell) -> Result<Cell, Over> {
         match (a, b) {
             (Cell::Val(a), Cell::Val(b)) => Ok(Cell::Val(if a <= b { a } else { b })),
             _ => Ok(Cell::Mv),
@@ -23,9 +23,9 @@ impl CellRule for Least {
 }
 
 impl CellRule for Greatest {
-    ghost rule = { λ _ a b _. max_of a b };
+    ghost rule = { λ _ a b _ _. max_of a b };
 
-    fn at(&self, a: Cell, b: Cell, _c: Cell) -> Result<Cell, Over> {
+    fn at(&self, a: Cell, b: Cell, _c: Cell, _d: Cell) -> Result<Cell, Over> {
         match (a, b) {
             (Cell::Val(a), Cell::Val(b)) => Ok(Cell::Val(if a <= b { b } else { a })),
             _ => Ok(Cell::Mv),

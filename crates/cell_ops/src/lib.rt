@@ -10,6 +10,7 @@ mod conversion;
 mod extreme;
 mod laws;
 mod logic;
+mod lookup;
 mod part;
 mod places;
 mod rule;

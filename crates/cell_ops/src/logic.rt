@@ -51,9 +51,9 @@ impl Comparison for Xor {
 }
 
 impl CellRule for Not {
-    ghost rule = { λ _ a _ _. not_of a };
+    ghost rule = { λ _ a _ _ _. not_of a };
 
-    fn at(&self, a: Cell, _b: Cell, _c: Cell) -> Result<Cell, Over> {
+    fn at(&self, a: Cell, _b: Cell, _c: Cell, _d: Cell) -> Result<Cell, Over> {
         match a {
             Cell::Mv => Ok(Cell::Mv),
             Cell::Val(a) => Ok(truth(!is_one(a))),

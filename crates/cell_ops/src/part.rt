@@ -10,6 +10,7 @@ use crate::comparison::{Compared, Equal, Greater, GreaterEqual, Less, LessEqual,
 use crate::conversion::converted;
 use crate::extreme::{Greatest, Least};
 use crate::logic::{And, Not, Or, Xor};
+use crate::lookup::{at_step, looked_up};
 use crate::places::{one, three, two};
 use crate::scalar::{
     Difference, Negative, OnScalar, Product, Quotient, Remainder, Size, Sum, WholeAbove,
@@ -119,8 +120,21 @@ fn plain(
         Op::IfElse => three(alloc, &IfElse, len, a, b, c),
         Op::Cover => two(alloc, &Cover, len, a, b),
         Op::Defined => one(alloc, &Defined, len, a),
-        Op::ToBoolean | Op::ToNominal | Op::ToOrdinal | Op::ToScalar | Op::ToDirectional =>
-            unreachable!(),
+        Op::ToBoolean
+        | Op::ToNominal
+        | Op::ToOrdinal
+        | Op::ToScalar
+        | Op::ToDirectional
+        | Op::LookupBoolean
+        | Op::LookupNominal
+        | Op::LookupOrdinal
+        | Op::LookupScalar
+        | Op::LookupDirectional
+        | Op::TimeInputBoolean
+        | Op::TimeInputNominal
+        | Op::TimeInputOrdinal
+        | Op::TimeInputScalar
+        | Op::TimeInputDirectional => unreachable!(),
     }
 }
 
@@ -129,23 +143,25 @@ fn plain(
 #[tactic(auto, unfolding(crate::specs::Work::work_outcome))]
 pub fn cell_part(
     alloc: Global,
-    work: CellWork,
+    work: CellWork<'_>,
     len: usize,
     a: Arg<'_>,
     b: Arg<'_>,
     c: Arg<'_>,
     d: Arg<'_>,
 ) -> Result<Part, AllocError>
-    requires work { IsWork work }
+    requires work { IsWork work.entry }
     requires few { len ≤ most_cells }
     requires a { SpansPlaces a len }
     requires b { SpansPlaces b len }
     requires c { SpansPlaces c len }
     requires d { SpansPlaces d len }
-    ensures { IfOk result (λ part. part ≡ part_of (λ place. work_outcome work (arg_cell a.entry place) (arg_cell b.entry place) (arg_cell c.entry place) (arg_cell d.entry place)) len) }
+    ensures { IfOk result (λ part. part ≡ part_of (λ place. work_outcome work.entry (arg_cell a.entry place) (arg_cell b.entry place) (arg_cell c.entry place) (arg_cell d.entry place)) len) }
 {
     match work {
         CellWork::Plain(op) => plain(alloc, op, len, a, b, c, d),
         CellWork::Convert { from, to } => converted(alloc, from, to, len, a),
+        CellWork::Lookup { table, keys } => looked_up(alloc, table, keys, len, a, b, c, d),
+        CellWork::SeriesAt(series, step) => at_step(alloc, series, step, len, a),
     }
 }

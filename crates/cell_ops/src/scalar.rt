@@ -32,49 +32,49 @@ pub struct WholeQuotient;
 pub struct Remainder;
 
 impl CellRule for Sum {
-    ghost rule = { λ _ a b _. scalar_sum a b };
+    ghost rule = { λ _ a b _ _. scalar_sum a b };
 
-    fn at(&self, a: Cell, b: Cell, _c: Cell) -> Result<Cell, Over> {
+    fn at(&self, a: Cell, b: Cell, _c: Cell, _d: Cell) -> Result<Cell, Over> {
         add(a, b)
     }
 }
 
 impl CellRule for Difference {
-    ghost rule = { λ _ a b _. scalar_difference a b };
+    ghost rule = { λ _ a b _ _. scalar_difference a b };
 
-    fn at(&self, a: Cell, b: Cell, _c: Cell) -> Result<Cell, Over> {
+    fn at(&self, a: Cell, b: Cell, _c: Cell, _d: Cell) -> Result<Cell, Over> {
         sub(a, b)
     }
 }
 
 impl CellRule for Product {
-    ghost rule = { λ _ a b _. scalar_product a b };
+    ghost rule = { λ _ a b _ _. scalar_product a b };
 
-    fn at(&self, a: Cell, b: Cell, _c: Cell) -> Result<Cell, Over> {
+    fn at(&self, a: Cell, b: Cell, _c: Cell, _d: Cell) -> Result<Cell, Over> {
         mul(a, b)
     }
 }
 
 impl CellRule for Quotient {
-    ghost rule = { λ _ a b _. scalar_quotient a b };
+    ghost rule = { λ _ a b _ _. scalar_quotient a b };
 
-    fn at(&self, a: Cell, b: Cell, _c: Cell) -> Result<Cell, Over> {
+    fn at(&self, a: Cell, b: Cell, _c: Cell, _d: Cell) -> Result<Cell, Over> {
         div(a, b)
     }
 }
 
 impl CellRule for WholeQuotient {
-    ghost rule = { λ _ a b _. scalar_whole_quotient a b };
+    ghost rule = { λ _ a b _ _. scalar_whole_quotient a b };
 
-    fn at(&self, a: Cell, b: Cell, _c: Cell) -> Result<Cell, Over> {
+    fn at(&self, a: Cell, b: Cell, _c: Cell, _d: Cell) -> Result<Cell, Over> {
         int_div(a, b)
     }
 }
 
 impl CellRule for Remainder {
-    ghost rule = { λ _ a b _. Ok (scalar_remainder a b) };
+    ghost rule = { λ _ a b _ _. Ok (scalar_remainder a b) };
 
-    fn at(&self, a: Cell, b: Cell, _c: Cell) -> Result<Cell, Over> {
+    fn at(&self, a: Cell, b: Cell, _c: Cell, _d: Cell) -> Result<Cell, Over> {
         Ok(int_mod(a, b))
     }
 }
@@ -96,9 +96,9 @@ pub struct OnScalar<F> {
 }
 
 impl<F: ScalarFunction> CellRule for OnScalar<F> {
-    ghost rule = { λ s a _ _. at_cell (λ z. cell_of_number Scalar (F.value s.function z)) a };
+    ghost rule = { λ s a _ _ _. at_cell (λ z. cell_of_number Scalar (F.value s.function z)) a };
 
-    fn at(&self, a: Cell, _b: Cell, _c: Cell) -> Result<Cell, Over> {
+    fn at(&self, a: Cell, _b: Cell, _c: Cell, _d: Cell) -> Result<Cell, Over> {
         match a {
             Cell::Mv => Ok(Cell::Mv),
             Cell::Val(a) => to_cell(Kind::Scalar, self.function.of(a)),

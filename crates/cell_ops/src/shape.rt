@@ -1,9 +1,11 @@
 ghost use Rattle.std.specs.Prelude.{◌≡◌, ◌<◌, ℕ, length, ⊤};
 ghost use Rattle.cell_values.specs.declared.cell.Cell.{Cell as TheCell};
 ghost use Rattle.map_meaning.specs.Maps.{nowhere};
+ghost use Rattle.tile_map.specs.Args.{SpansPlaces, arg_cell};
 ghost use Rattle.tile_map.specs.Cuts.{cell_at};
 
 use cell_values::Cell;
+use map_meaning::Arg;
 
 /// An operand by its places.
 pub trait Shape {
@@ -32,6 +34,10 @@ pub struct Everywhere(pub Cell);
 #[derive(Drop)]
 pub struct Each<'a>(pub &'a [Cell]);
 
+/// An operand of any shape, which is looked at for each place.
+#[derive(Drop)]
+pub struct Any<'a>(pub Arg<'a>);
+
 impl Shape for Nowhere {
     ghost cell = { λ _. nowhere };
 
@@ -59,5 +65,19 @@ impl<'a> Shape for Each<'a> {
 
     fn at(&self, place: usize, _places: usize) -> Cell {
         self.0[place]
+    }
+}
+
+impl<'a> Shape for Any<'a> {
+    ghost cell = { λ s. arg_cell s.0 };
+
+    ghost covers = { λ s places. SpansPlaces s.0 places };
+
+    fn at(&self, place: usize, _places: usize) -> Cell {
+        match self.0 {
+            Arg::Unused => Cell::Mv,
+            Arg::One(cell) => cell,
+            Arg::Cells(cells) => cells[place],
+        }
     }
 }

@@ -151,6 +151,13 @@ impl Table {
         }
     }
 
+    /// How many keys it has.
+    pub fn keys(&self) -> u32
+        ensures { result ≡ self.now.keys }
+    {
+        self.keys
+    }
+
     /// The value of the table at these numbers, in millionths: the result of the first line whose key
     /// columns all take in the number at their place, and `Mv` exactly where there is no such line. As
     /// many numbers count as the table has keys. A table of one key whose columns stand apart in

@@ -35,7 +35,7 @@ use Rattle.map_meaning.specs.Rules.{no_series, no_table}
 use Rattle.map_meaning.specs.Scenes.{Scene, place_count, setting_at, stack_map}
 use Rattle.map_meaning.specs.Overs.{map_or_over}
 use Rattle.map_meaning.specs.Programs.{AreOneName, AreOperations, AreStepOperations, IsBelow, IsBelowNow, IsFileOf, IsInput, IsOperation, IsOperationOf, IsStepOperation}
-use Rattle.map_meaning.specs.Programs.{are_used_first, file_role, input_kind, is_carried, is_grid, is_initial, is_last, is_read_in_steps, is_series, is_stack, is_table, is_unused, kinds_of, operand_kind, operands_of, operation_kind}
+use Rattle.map_meaning.specs.Programs.{are_used_first, file_role, input_kind, is_carried, is_grid_role, is_initial, is_last, is_read_in_steps, is_series_role, is_stack_role, is_table_role, is_unused, kinds_of, operand_kind, operands_of, operation_kind}
 use Rattle.map_meaning.specs.Spans.{AreInputMaps, AreOfInputs, HasSeriesKind, HasTableKind, IsTableOf, at_inputs, kept_maps, scene_of}
 use Rattle.tile_map.proofs.Callers.{is_part-part_of}
 use Rattle.map_meaning.proofs.InKinds.{in_kind}
@@ -127,17 +127,17 @@ input_there program asked n is =
 
 -- What a scene has of its inputs: whole maps of the kinds of the grids, and tables and series with values of their kinds.
 pub record HasInputs (program : Program) (scene : Scene) : Type 0 where
-  pub grids : (n : ℕ) (input : InputUse) → slice_get program.inputs n ≡ Some input → is_grid input.role ≡ true → IsMapOf (place_count scene) input.kind (nth scene.inputs n)
-  pub tables : (n : ℕ) (input : InputUse) → slice_get program.inputs n ≡ Some input → is_table input.role ≡ true → HasTableKind input.kind (slice_index_or scene.tables n no_table)
-  pub series : (n : ℕ) (input : InputUse) → slice_get program.inputs n ≡ Some input → is_series input.role ≡ true → HasSeriesKind input.kind (slice_index_or scene.series n no_series)
+  pub grids : (n : ℕ) (input : InputUse) → slice_get program.inputs n ≡ Some input → is_grid_role input.role ≡ true → IsMapOf (place_count scene) input.kind (nth scene.inputs n)
+  pub tables : (n : ℕ) (input : InputUse) → slice_get program.inputs n ≡ Some input → is_table_role input.role ≡ true → HasTableKind input.kind (slice_index_or scene.tables n no_table)
+  pub series : (n : ℕ) (input : InputUse) → slice_get program.inputs n ≡ Some input → is_series_role input.role ≡ true → HasSeriesKind input.kind (slice_index_or scene.series n no_series)
 
 -- the scene of what is known has its inputs
-pub scene_inputs : (program : Program) (known : Known) (step : ℕ) → AreInputMaps (known.rows * known.cols) program.inputs known.maps → AreOfInputs is_table IsTableOf program.inputs known.tables →
-    AreOfInputs is_series (λ input series. HasSeriesKind input.kind series) program.inputs known.series → HasInputs program (scene_of program.inputs known step)
+pub scene_inputs : (program : Program) (known : Known) (step : ℕ) → AreInputMaps (known.rows * known.cols) program.inputs known.maps → AreOfInputs is_table_role IsTableOf program.inputs known.tables →
+    AreOfInputs is_series_role (λ input series. HasSeriesKind input.kind series) program.inputs known.series → HasInputs program (scene_of program.inputs known step)
 scene_inputs program known step maps tables series = record {
-  grids = λ n input is of_role. input_item is_grid [] (λ input m. IsMapOf (known.rows * known.cols) input.kind m) program.inputs known.maps n input maps is of_role;
-  tables = λ n input is of_role. (input_item is_table no_table IsTableOf program.inputs known.tables n input tables is of_role).cells;
-  series = λ n input is of_role. input_item is_series no_series (λ input series. HasSeriesKind input.kind series) program.inputs known.series n input series is of_role;
+  grids = λ n input is of_role. input_item is_grid_role [] (λ input m. IsMapOf (known.rows * known.cols) input.kind m) program.inputs known.maps n input maps is of_role;
+  tables = λ n input is of_role. (input_item is_table_role no_table IsTableOf program.inputs known.tables n input tables is of_role).cells;
+  series = λ n input is of_role. input_item is_series_role no_series (λ input series. HasSeriesKind input.kind series) program.inputs known.series n input series is of_role;
 }
 
 -- ---- maps that are done
@@ -232,11 +232,11 @@ module _ (program : Program) (scene : Scene) (done : Done) (inputs : HasInputs p
   file_holds (Some (Table keys)) kind n kinds is =
       let found = input_there program (Table keys) n is.input in
       let same : found.0.kind ≡ kind = (let both : Some found.0.kind ≡ Some kind = sym (ap (option_map (λ (i : InputUse). i.kind)) found.1) ∙ is.kind_is in cc) in
-      subst (λ k. HasTableKind k (slice_index_or scene.tables n no_table)) same (inputs.tables n found.0 found.1 (ap is_table found.2))
+      subst (λ k. HasTableKind k (slice_index_or scene.tables n no_table)) same (inputs.tables n found.0 found.1 (ap is_table_role found.2))
   file_holds (Some Series) kind n kinds is =
       let found = input_there program Series n is.input in
       let same : found.0.kind ≡ kind = (let both : Some found.0.kind ≡ Some kind = sym (ap (option_map (λ (i : InputUse). i.kind)) found.1) ∙ is.kind_is in cc) in
-      subst (λ k. HasSeriesKind k (slice_index_or scene.series n no_series)) same (inputs.series n found.0 found.1 (ap is_series found.2))
+      subst (λ k. HasSeriesKind k (slice_index_or scene.series n no_series)) same (inputs.series n found.0 found.1 (ap is_series_role found.2))
 
   -- the map of an operation has a cell for each place, of its kind
   pub map_whole : (o : Operation) (keep : Bool) → IsOperationOf program IsRead keep o → IsMapOf (place_count scene) o.kind (operation_part program scene done o).cells
@@ -254,7 +254,7 @@ module _ (program : Program) (scene : Scene) (done : Done) (inputs : HasInputs p
   input_cell : (k place : ℕ) (kind : Kind) → IsInput program Grid k → input_kind program k ≡ Some kind → place < place_count scene → IsCell kind (cell_at (nth scene.inputs k) place)
   input_cell k place kind is same within =
       let found = input_there program Grid k is in
-      cell_of_map (nth scene.inputs k) found.0.kind kind (input_kind program k) place (ap (option_map (λ (i : InputUse). i.kind)) found.1) (inputs.grids k found.0 found.1 (ap is_grid found.2)) same within
+      cell_of_map (nth scene.inputs k) found.0.kind kind (input_kind program k) place (ap (option_map (λ (i : InputUse). i.kind)) found.1) (inputs.grids k found.0 found.1 (ap is_grid_role found.2)) same within
 
   -- an operation's cell
   operation_cell : (operations : List Operation) (maps : List WholeMap) (k place : ℕ) (kind : Kind) (o : Operation) → slice_get operations k ≡ Some o → IsMapOf (place_count scene) o.kind (nth maps k) → operation_kind operations k ≡ Some kind → place < place_count scene → IsCell kind (cell_at (nth maps k) place)

@@ -6,6 +6,7 @@ use Rattle.cell_values.specs.declared.kind.Kind.{Kind}
 use Rattle.cell_values.specs.declared.kind.Kind.TheVariants.{Boolean, Nominal, Ordinal, Scalar}
 use Rattle.cell_values.specs.declared.cell.Cell.{Cell}
 use Rattle.cell_values.specs.declared.cell.Cell.TheVariants.{Mv, Val}
+use Rattle.lookup_table.specs.declared.key.KeyRange.{KeyRange}
 use Rattle.lookup_table.specs.Form.{TableValue}
 use Rattle.lookup_table.specs.Keys.{greatest_number, least_number}
 use Rattle.time_series.specs.Form.{SeriesValue}
@@ -29,7 +30,7 @@ use Rattle.map_meaning.specs.declared.tree.Statement.{Statement}
 use Rattle.map_meaning.specs.declared.tree.Tree.{Tree}
 use Rattle.map_meaning.specs.declared.tree.Tree.TheVariants as tree
 use Rattle.map_meaning.specs.Local.{truth}
-use Rattle.map_meaning.specs.Rules.{no_series, no_table, of_kinds, outcome_of}
+use Rattle.map_meaning.specs.Rules.{Setting, no_series, no_table, of_kinds, outcome_of}
 use Rattle.map_meaning.specs.Table.{HasKinds, map_row, row_of}
 use Rattle.map_meaning.specs.Scenes.{Scene}
 use Rattle.map_meaning.specs.Sections.{After, section_value}
@@ -338,7 +339,10 @@ over_cell first second third initial = record {
       record {
         kind = Scalar;
         rows =
-            record { step = 1; cells = first ∷ [] } ∷ record { step = 2; cells = second ∷ [] } ∷ record { step = 3; cells = third ∷ [] } ∷ [];
+            record { step = 1; cells = first ∷ [] }
+            ∷ record { step = 2; cells = second ∷ [] }
+            ∷ record { step = 3; cells = third ∷ [] }
+            ∷ [];
       } ∷ [];
   stacks = stack_grid 1 (whole_scalar 5) ∷ stack_grid 2 Mv ∷ stack_grid 3 (whole_scalar 7) ∷ [];
   initial = initial;
@@ -348,6 +352,14 @@ over_cell first second third initial = record {
 -- the map of one cell of an operation of `initial`
 abbrev pub begun_with : ℕ → Cell → StepMap
 begun_with n cell = record { step = 0; operation = n; cells = cell ∷ [] }
+
+-- A and B are 1
+abbrev pub begun_with_ones : List StepMap
+begun_with_ones = begun_with 0 (whole_scalar 1) ∷ begun_with 1 (whole_scalar 1) ∷ []
+
+-- S is 0
+abbrev pub begun_with_none : List StepMap
+begun_with_none = begun_with 0 (whole_scalar 0) ∷ []
 
 -- the cells of the maps of one operation that are told, step by step
 abbrev pub told_cells : ℕ → StageEnd → List (List Cell)
@@ -370,8 +382,9 @@ summing = over_steps (kept_operation op.CopyOf (from.Literal Scalar (whole_scala
     (kept_operation op.TimeInputScalar (from.Input 0) from.Unused 2 1 ∷ kept_operation op.Add (from.Last 1 0) (from.Now 0) 2 2 ∷ [])
 
 -- `dynamic O = timeinput(P); T = time();`
-abbrev pub reading : Program
-reading = over_steps [] (kept_operation op.CopyOf (from.Stack 2) from.Unused 1 1 ∷ kept_operation op.CopyOf from.Time from.Unused 2 1 ∷ [])
+abbrev pub reading_steps : Program
+reading_steps =
+    over_steps [] (kept_operation op.CopyOf (from.Stack 2) from.Unused 1 1 ∷ kept_operation op.CopyOf from.Time from.Unused 2 1 ∷ [])
 
 -- what the three steps give
 abbrev pub three_steps : Program → Known → StageEnd
@@ -380,19 +393,20 @@ three_steps program known = stage_of program (span.Steps 1 3) known
 -- what spans of steps give
 pub record SpanExamples : Type 0 where
   -- X is 1, 1 and 2
-  pub before : told_cells 0 (three_steps going_on (over_cell Mv Mv Mv (begun_with 0 (whole_scalar 1) ∷ begun_with 1 (whole_scalar 1) ∷ [])))
+  pub before : told_cells 0 (three_steps going_on (over_cell Mv Mv Mv begun_with_ones))
       ≡ (whole_scalar 1 ∷ []) ∷ (whole_scalar 1 ∷ []) ∷ (whole_scalar 2 ∷ []) ∷ []
   -- over a series of 1, 2 and 4 S is 1, 3 and 7
-  pub summed : told_cells 1 (three_steps summing (over_cell (whole_scalar 1) (whole_scalar 2) (whole_scalar 4) (begun_with 0 (whole_scalar 0) ∷ [])))
+  pub summed : told_cells 1 (three_steps summing (over_cell (whole_scalar 1) (whole_scalar 2) (whole_scalar 4) begun_with_none))
       ≡ (whole_scalar 1 ∷ []) ∷ (whole_scalar 3 ∷ []) ∷ (whole_scalar 7 ∷ []) ∷ []
   -- over a series of 1 and 9,000,000,000,000 the sum is Over at step 2, and S is told of step 1 alone
-  pub over_from : (three_steps summing (over_cell (whole_scalar 1) (whole_scalar 9000000000000) Mv (begun_with 0 (whole_scalar 0) ∷ []))).over
+  pub over_from : (three_steps summing (over_cell (whole_scalar 1) (whole_scalar 9000000000000) Mv begun_with_none)).over
       ≡ Some (record { step = 2; statement = 2; operation = 2; row = 1; col = 1 })
-  pub told_before : told_cells 1 (three_steps summing (over_cell (whole_scalar 1) (whole_scalar 9000000000000) Mv (begun_with 0 (whole_scalar 0) ∷ [])))
+  pub told_before : told_cells 1 (three_steps summing (over_cell (whole_scalar 1) (whole_scalar 9000000000000) Mv begun_with_none))
       ≡ (whole_scalar 1 ∷ []) ∷ []
   -- the grids of the stack, and the numbers of the steps
-  pub stacked : told_cells 0 (three_steps reading (over_cell Mv Mv Mv [])) ≡ (whole_scalar 5 ∷ []) ∷ (Mv ∷ []) ∷ (whole_scalar 7 ∷ []) ∷ []
-  pub counted : told_cells 1 (three_steps reading (over_cell Mv Mv Mv []))
+  pub stacked : told_cells 0 (three_steps reading_steps (over_cell Mv Mv Mv []))
+      ≡ (whole_scalar 5 ∷ []) ∷ (Mv ∷ []) ∷ (whole_scalar 7 ∷ []) ∷ []
+  pub counted : told_cells 1 (three_steps reading_steps (over_cell Mv Mv Mv []))
       ≡ (whole_scalar 1 ∷ []) ∷ (whole_scalar 2 ∷ []) ∷ (whole_scalar 3 ∷ []) ∷ []
 
 -- ---- tables and series
@@ -408,14 +422,18 @@ from_ten = record {
       ∷ [];
 }
 
+-- the key that is a whole number
+abbrev pub the_number : ℕ → KeyRange
+the_number n = record { first = pos (n * 1000000); last = pos (n * 1000000) }
+
 -- the table of the lines `1 2 5` and `1 <,> 6`
 abbrev pub of_two_keys : TableValue
 of_two_keys = record {
   keys = 2;
   kind = Nominal;
   rows =
-      record { keys = record { first = pos 1000000; last = pos 1000000 } ∷ record { first = pos 2000000; last = pos 2000000 } ∷ []; result = pos 5 }
-      ∷ record { keys = record { first = pos 1000000; last = pos 1000000 } ∷ record { first = least_number; last = greatest_number } ∷ []; result = pos 6 }
+      record { keys = the_number 1 ∷ the_number 2 ∷ []; result = pos 5 }
+      ∷ record { keys = the_number 1 ∷ record { first = least_number; last = greatest_number } ∷ []; result = pos 6 }
       ∷ [];
 }
 
@@ -432,11 +450,14 @@ abbrev pub looked_up : Op → TableValue → List Kind → List (List Cell) → 
 looked_up o table kinds maps places =
     (part_of (outcome_of o (record { kinds = kinds; step = 0; table = table; series = no_series }) (map cell_at maps)) places).cells
 
+-- what an operation is told of the series at a step
+abbrev pub told_series : ℕ → Setting
+told_series step = record { kinds = Nominal ∷ []; step = step; table = no_table; series = of_two_rows }
+
 -- the cells that the series gives of these ids at a step
 abbrev pub cells_of_step : ℕ → List Cell → ℕ → List Cell
 cells_of_step step ids places =
-    (part_of (outcome_of op.TimeInputScalar (record { kinds = Nominal ∷ []; step = step; table = no_table; series = of_two_rows }) (cell_at ids ∷ []))
-    places).cells
+    (part_of (outcome_of op.TimeInputScalar (told_series step) (cell_at ids ∷ [])) places).cells
 
 -- what lookups and series give
 pub record FileExamples : Type 0 where
@@ -445,7 +466,9 @@ pub record FileExamples : Type 0 where
       ≡ whole_scalar 2 ∷ whole_scalar 1 ∷ Mv ∷ []
   -- a class is compared as the whole number that it is, the first row that fits counts, and a missing key gives a missing value
   pub classes : looked_up op.LookupNominal of_two_keys (Nominal ∷ Scalar ∷ [])
-      ((Val (pos 1) ∷ Val (pos 1) ∷ Val (pos 2) ∷ Mv ∷ Val (pos 1) ∷ []) ∷ (whole_scalar 2 ∷ whole_scalar 3 ∷ whole_scalar 2 ∷ whole_scalar 2 ∷ Mv ∷ []) ∷ [])
+      ((Val (pos 1) ∷ Val (pos 1) ∷ Val (pos 2) ∷ Mv ∷ Val (pos 1) ∷ [])
+      ∷ (whole_scalar 2 ∷ whole_scalar 3 ∷ whole_scalar 2 ∷ whole_scalar 2 ∷ Mv ∷ [])
+      ∷ [])
       5 ≡ Val (pos 5) ∷ Val (pos 6) ∷ Mv ∷ Mv ∷ Mv ∷ []
   -- columns count from 1; there is no row for step 2
   pub columns : cells_of_step 1 (Val (pos 1) ∷ Val (pos 2) ∷ Val (pos 3) ∷ Val (pos 0) ∷ Val (neg_ℤ (pos 1)) ∷ Mv ∷ []) 6

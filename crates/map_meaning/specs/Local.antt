@@ -1,6 +1,6 @@
 -- The values of the operations on cells, each by its operands' cells at one place. Those of `+`, `-`, `*`, `/`, `idiv`
 -- and `mod` stand with the arithmetic of cells, those of the conversions with the kinds.
-use Rattle.std.specs.Prelude.{ℕ, nat_lt, ℤ, pos, neg_ℤ, unsigned_abs, int_lt, int_le, Ok, Option, Some, None}
+use Rattle.std.specs.Prelude.{ℕ, nat_lt, ℤ, pos, neg_ℤ, unsigned_abs, int_lt, int_le, Ok, Err, Option, Some, None}
 use Rattle.std.specs.Prelude.{Bool, true, false, not, ◌&&◌, ◌||◌, if◌then◌else◌, List, [], ◌∷◌, slice_index_or}
 use Rattle.std.specs.Ordering.{int_eq}
 use Rattle.cell_values.specs.declared.kind.Kind.{Kind}
@@ -9,7 +9,7 @@ use Rattle.cell_values.specs.declared.cell.Cell.{Cell}
 use Rattle.cell_values.specs.declared.cell.Cell.TheVariants.{Mv, Val}
 use Rattle.cell_values.specs.Kinds.{cell_of_number}
 use Rattle.cell_values.specs.Arithmetic.{at_cells}
-use Rattle.cell_values.specs.Conversion.{scalar_of}
+use Rattle.cell_values.specs.Conversion.{conversion_of}
 use Rattle.lookup_table.specs.Form.{TableValue, value_of}
 use Rattle.time_series.specs.Form.{SeriesValue}
 use Rattle.time_series.specs.Values.{cell_in_row, cells_at}
@@ -141,10 +141,15 @@ defined_of (Val a) = Ok (truth true)
 
 -- ---- tables and series
 
--- the number of a key in millionths, as the keys of tables are; none where its cell is missing
+-- the number of an outcome, if it has one
+abbrev pub number_in : Outcome → Option ℤ
+number_in (Ok Mv) = None
+number_in (Ok (Val z)) = Some z
+number_in (Err over) = None
+
+-- the number of a key as a scalar, as the keys of tables are; none where its cell is missing
 abbrev pub key_number : Kind → Cell → Option ℤ
-key_number kind Mv = None
-key_number kind (Val z) = Some (scalar_of kind z)
+key_number kind cell = number_in (conversion_of kind Scalar cell)
 
 -- the number of the key at a place behind the first; one that the table does not have counts as 0
 abbrev pub further_key : TableValue → List Kind → ℕ → Cell → Option ℤ
@@ -161,7 +166,8 @@ value_at_keys table (Some a) (Some b) (Some c) (Some d) = value_of table (a ∷ 
 -- `lookup..`: the value of the table at the operands, which have these kinds; as many count as the table has keys
 abbrev pub lookup_of : TableValue → List Kind → Cell → Cell → Cell → Cell → Outcome
 lookup_of table kinds a b c d =
-    Ok (value_at_keys table (key_number (slice_index_or kinds 0 Scalar) a) (further_key table kinds 1 b) (further_key table kinds 2 c) (further_key table kinds 3 d))
+    Ok (value_at_keys table (key_number (slice_index_or kinds 0 Scalar) a)
+    (further_key table kinds 1 b) (further_key table kinds 2 c) (further_key table kinds 3 d))
 
 -- `timeinput..`: the cell of the series in the row of a step and the column of the operand, which count from 1
 abbrev pub timeinput_of : SeriesValue → ℕ → Cell → Outcome

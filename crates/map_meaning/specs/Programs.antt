@@ -25,24 +25,24 @@ use Rattle.map_meaning.specs.Table.{HasKinds, map_row, row_of}
 -- ---- roles
 
 -- an input is read once, as a map
-abbrev pub is_grid : Role → Bool
-is_grid Grid = true
-is_grid _ = false
+abbrev pub is_grid_role : Role → Bool
+is_grid_role Grid = true
+is_grid_role _ = false
 
 -- an input is a map for each step
-abbrev pub is_stack : Role → Bool
-is_stack Stack = true
-is_stack _ = false
+abbrev pub is_stack_role : Role → Bool
+is_stack_role Stack = true
+is_stack_role _ = false
 
 -- an input is a table
-abbrev pub is_table : Role → Bool
-is_table (Table keys) = true
-is_table _ = false
+abbrev pub is_table_role : Role → Bool
+is_table_role (Table keys) = true
+is_table_role _ = false
 
 -- an input is a series
-abbrev pub is_series : Role → Bool
-is_series Series = true
-is_series _ = false
+abbrev pub is_series_role : Role → Bool
+is_series_role Series = true
+is_series_role _ = false
 
 -- Tables have 1 to 4 keys, and no table, series or stack has drain directions.
 abbrev pub SuitsRole : Kind → Role → Type 0
@@ -242,14 +242,14 @@ pub record IsIds (program : Program) (n : ℕ) : Type 0 where
 
 -- The operand is what such an output writes: the map of an operation of `initial`, or that of an operation of `dynamic`; a
 -- time series has also what a step reads.
-abbrev pub IsWritten : Program → OutputKind → Operand → Type 0
-IsWritten program InitialGrid value = (n : ℕ) × (value ≡ Initial n) × (n < length program.initial)
-IsWritten program StackGrid value = (n : ℕ) × (value ≡ Now n) × (n < length program.dynamic)
-IsWritten program (Sample ids) value = IsIds program ids × IsBelowNow program (length program.dynamic) value
+abbrev pub IsOutputValue : Program → OutputKind → Operand → Type 0
+IsOutputValue program InitialGrid value = (n : ℕ) × (value ≡ Initial n) × (n < length program.initial)
+IsOutputValue program StackGrid value = (n : ℕ) × (value ≡ Now n) × (n < length program.dynamic)
+IsOutputValue program (Sample ids) value = IsIds program ids × IsBelowNow program (length program.dynamic) value
 
 -- an output of a program: what it writes has its kind
 pub record IsOutput (program : Program) (output : OutputUse) : Type 0 where
-  pub value : IsWritten program output.kind output.value
+  pub value : IsOutputValue program output.kind output.value
   pub kind : operand_kind program output.value ≡ Some output.cell_kind
   pub file : IsTrue (is_file_word output.file)
   pub statement : output.statement ≤ most_statements
@@ -278,6 +278,6 @@ pub record IsWellFormed (program : Program) : Type 0 where
   pub few_statements : All (λ o. o.statement ≤ most_statements) program.initial
   pub few_step_statements : All (λ o. o.statement ≤ most_statements) program.dynamic
   pub few_outputs : length program.outputs ≤ most_statements
-  pub few_stacks : length (filter (λ input. is_stack input.role) program.inputs) ≤ most_stacks
+  pub few_stacks : length (filter (λ input. is_stack_role input.role) program.inputs) ≤ most_stacks
   pub few_stack_outputs : length (filter (λ output. is_stack_grid output.kind) program.outputs) ≤ most_stacks
   pub few_steps : program.steps ≤ most_steps

@@ -20,7 +20,7 @@ use Rattle.map_meaning.specs.declared.program.Program.{Program}
 use Rattle.map_meaning.specs.declared.program.Role.{Role}
 use Rattle.map_meaning.specs.declared.program.Role.TheVariants.{Stack, Table}
 use Rattle.map_meaning.specs.Maps.{WholeMap, IsMapOf, nth}
-use Rattle.map_meaning.specs.Programs.{is_carried, is_grid, is_series, is_table}
+use Rattle.map_meaning.specs.Programs.{is_carried, is_grid_role, is_series_role, is_table_role}
 use Rattle.map_meaning.specs.Rules.{no_series, no_table}
 use Rattle.map_meaning.specs.Scenes.{Scene, map_at_step}
 use Rattle.map_meaning.specs.Evaluation.{Done, section_maps, operation_values}
@@ -71,7 +71,7 @@ AreOfInputs has Suits inputs items = AllZip Suits (filter (λ input. has input.r
 
 -- the maps are those of the inputs that are grids: of so many cells, and each of its input's kind
 abbrev pub AreInputMaps : ℕ → List InputUse → List WholeMap → Type 0
-AreInputMaps places inputs maps = AreOfInputs is_grid (λ input m. IsMapOf places input.kind m) inputs maps
+AreInputMaps places inputs maps = AreOfInputs is_grid_role (λ input m. IsMapOf places input.kind m) inputs maps
 
 -- the values of a table are of the kind
 abbrev pub HasTableKind : Kind → TableValue → Type 0
@@ -99,9 +99,9 @@ scene_of inputs known step = record {
   rows = known.rows;
   cols = known.cols;
   step = step;
-  inputs = at_inputs is_grid [] inputs known.maps;
-  tables = at_inputs is_table no_table inputs known.tables;
-  series = at_inputs is_series no_series inputs known.series;
+  inputs = at_inputs is_grid_role [] inputs known.maps;
+  tables = at_inputs is_table_role no_table inputs known.tables;
+  series = at_inputs is_series_role no_series inputs known.series;
   stacks = known.stacks;
 }
 
@@ -148,13 +148,14 @@ pub record Knows (program : Program) (s : Span) (known : Known) : Type 0 where
   pub some_cols : 0 < known.cols
   pub few : known.rows * known.cols ≤ most_cells
   pub maps : AreInputMaps (known.rows * known.cols) program.inputs known.maps
-  pub tables : AreOfInputs is_table IsTableOf program.inputs known.tables
-  pub series : AreOfInputs is_series (λ input series. HasSeriesKind input.kind series) program.inputs known.series
+  pub tables : AreOfInputs is_table_role IsTableOf program.inputs known.tables
+  pub series : AreOfInputs is_series_role (λ input series. HasSeriesKind input.kind series) program.inputs known.series
   pub outside : KnowsOutside program s known
 
 -- what is done before a span
 abbrev pub done_before : Program → Span → Known → Done
-done_before program (span.Initial first end) known = record { initial = tabulate (kept_map known.initial) first; dynamic = []; last = [] }
+done_before program (span.Initial first end) known =
+    record { initial = tabulate (kept_map known.initial) first; dynamic = []; last = [] }
 done_before program (span.Steps first last) known = record {
   initial = tabulate (kept_map known.initial) (length program.initial);
   dynamic = [];
@@ -197,7 +198,8 @@ told_steps program s known done step (suc more) =
 unfoldable pub stage_of : Program → Span → Known → StageEnd
 stage_of program (span.Initial first end) known =
     told_of program (span.Initial first end) 0
-    (operation_values program (scene_of program.inputs known 0) (span.Initial first end) (done_before program (span.Initial first end) known)
+    (operation_values program (scene_of program.inputs known 0) (span.Initial first end)
+    (done_before program (span.Initial first end) known)
     (slice_range program.initial first end))
 stage_of program (span.Steps first last) known =
     told_steps program (span.Steps first last) known (done_before program (span.Steps first last) known) first (last + 1 - first)

@@ -17,5 +17,5 @@ mod writer;
 pub use fault::{ReadSeries, SeriesFault, SeriesKind};
 pub use reader::{first_series_faults_are_told, read_series, series_are_read};
 pub use row::SeriesRow;
-pub use series::Series;
+pub use series::{Series, cell_in_column};
 pub use writer::write_series;

@@ -54,8 +54,8 @@ fn find_step(rows: &[SeriesRow], step: u32) -> Option<&SeriesRow>
     Some(row)
 }
 
-// The cell of a column, which count from 1.
-fn cell_in_column(cells: &[Cell], column: i64) -> Cell
+/// The cell of a column of a row, and `Mv` where there is no such column. Columns count from 1, behind the step.
+pub fn cell_in_column(cells: &[Cell], column: i64) -> Cell
     ensures { result ≡ cell_in_column cells.now column }
 {
     if column < 1 {
