@@ -150,7 +150,7 @@ pub fn cell_part(
     c: Arg<'_>,
     d: Arg<'_>,
 ) -> Result<Part, AllocError>
-    requires work { IsWork work.entry }
+    requires work { IsWork work }
     requires few { len ≤ most_cells }
     requires a { SpansPlaces a len }
     requires b { SpansPlaces b len }

@@ -73,11 +73,8 @@ impl<'a> Shape for Any<'a> {
 
     ghost covers = { λ s places. SpansPlaces s.0 places };
 
+    #[tactic(auto, using(crate::proofs::Shapes::has_place))]
     fn at(&self, place: usize, _places: usize) -> Cell {
-        match self.0 {
-            Arg::Unused => Cell::Mv,
-            Arg::One(cell) => cell,
-            Arg::Cells(cells) => cells[place],
-        }
+        self.0.at(place)
     }
 }

@@ -1,5 +1,6 @@
 pub mod Parts
 pub mod Works
+pub mod InputLemmas
 pub mod ReaderLemmas
 pub mod Stages
 pub mod HeldLemmas

@@ -1,49 +1,50 @@
 -- Who reads which map last.
 use Rattle.std.proofs.Common.{◌≡◌, ℕ, zero, suc, ◌+◌, ◌<◌, ◌≤◌, Bool, true, false, cond, ◌||◌, ◌&&◌, List, [], ◌∷◌, drop, get_or, refl, sym, ap, subst, ◌∙◌, inl, inr, ◌⊎◌, arith}
 use Rattle.std.specs.List.{list_any}
+use Rattle.map_meaning.specs.declared.known.Span.{Span}
 use Rattle.map_meaning.specs.declared.program.Operation.{Operation}
 use Rattle.plain_eval.specs.inside.Readers.{last_reader, reads}
 
 -- the last reader is no lower than a number that neither the first operation's nor the other answer is lower than
-not_below : (k d n m : ℕ) (operations : List Operation) → m ≤ d → m ≤ n → m ≤ last_reader k d n operations
-not_below k d n m [] low first = low
-not_below k d n m (o ∷ more) low first = by_case (reads k o) (λ e is. not_below k e (n + 1) m more is (omega arith))
+not_below : (s : Span) (k d n m : ℕ) (operations : List Operation) → m ≤ d → m ≤ n → m ≤ last_reader s k d n operations
+not_below s k d n m [] low first = low
+not_below s k d n m (o ∷ more) low first = by_case (reads s k o) (λ e is. not_below s k e (n + 1) m more is (omega arith))
   where
-    by_case : (r : Bool) → ((e : ℕ) → m ≤ e → m ≤ last_reader k e (n + 1) more) → m ≤ last_reader k (cond r n d) (n + 1) more
+    by_case : (r : Bool) → ((e : ℕ) → m ≤ e → m ≤ last_reader s k e (n + 1) more) → m ≤ last_reader s k (cond r n d) (n + 1) more
     by_case true later = later n first
     by_case false later = later d low
 
 -- where operations from place i on read a map, its last reader stands there or behind
-pub read_later : (k d n i : ℕ) (operations : List Operation) → list_any (reads k) (drop i operations) ≡ true → n + i ≤ last_reader k d n operations
-read_later k d n zero [] is = absurd (cc)
-read_later k d n (suc i) [] is = absurd (cc)
-read_later k d n zero (o ∷ more) is = by_case (reads k o) is (λ is. read_later k d (n + 1) zero more is)
+pub read_later : (s : Span) (k d n i : ℕ) (operations : List Operation) → list_any (reads s k) (drop i operations) ≡ true → n + i ≤ last_reader s k d n operations
+read_later s k d n zero [] is = absurd (cc)
+read_later s k d n (suc i) [] is = absurd (cc)
+read_later s k d n zero (o ∷ more) is = by_case (reads s k o) is (λ is. read_later s k d (n + 1) zero more is)
   where
-    by_case : (r : Bool) → (r || list_any (reads k) more) ≡ true → (list_any (reads k) more ≡ true → n + 1 + 0 ≤ last_reader k d (n + 1) more) → n + 0 ≤ last_reader k (cond r n d) (n + 1) more
-    by_case true is later = not_below k n (n + 1) (n + 0) more (omega arith) (omega arith)
-    by_case false is later = let h : n + 1 + 0 ≤ last_reader k d (n + 1) more = later is in omega arith
-read_later k d n (suc i) (o ∷ more) is =
-    let h : n + 1 + i ≤ last_reader k (cond (reads k o) n d) (n + 1) more = read_later k (cond (reads k o) n d) (n + 1) i more is in omega arith
+    by_case : (r : Bool) → (r || list_any (reads s k) more) ≡ true → (list_any (reads s k) more ≡ true → n + 1 + 0 ≤ last_reader s k d (n + 1) more) → n + 0 ≤ last_reader s k (cond r n d) (n + 1) more
+    by_case true is later = not_below s k n (n + 1) (n + 0) more (omega arith) (omega arith)
+    by_case false is later = let h : n + 1 + 0 ≤ last_reader s k d (n + 1) more = later is in omega arith
+read_later s k d n (suc i) (o ∷ more) is =
+    let h : n + 1 + i ≤ last_reader s k (cond (reads s k o) n d) (n + 1) more = read_later s k (cond (reads s k o) n d) (n + 1) i more is in omega arith
 
 -- the operation at this place, behind the others, reads the map
-abbrev IsReaderAt : ℕ → ℕ → List Operation → ℕ → Type 0
-IsReaderAt k n operations r = (i : ℕ) × (r ≡ n + i) × ((d : Operation) → reads k (get_or operations i d) ≡ true)
+abbrev IsReaderAt : Span → ℕ → ℕ → List Operation → ℕ → Type 0
+IsReaderAt s k n operations r = (i : ℕ) × (r ≡ n + i) × ((d : Operation) → reads s k (get_or operations i d) ≡ true)
 
 -- the last reader reads the map, where there is one
-last_reads : (k d n r : ℕ) (operations : List Operation) → last_reader k d n operations ≡ r → (r ≡ d) ⊎ IsReaderAt k n operations r
-last_reads k d n r [] is = inl (sym is)
-last_reads k d n r (o ∷ more) is = by_case (reads k o) refl (last_reads k (cond (reads k o) n d) (n + 1) r more is)
+last_reads : (s : Span) (k d n r : ℕ) (operations : List Operation) → last_reader s k d n operations ≡ r → (r ≡ d) ⊎ IsReaderAt s k n operations r
+last_reads s k d n r [] is = inl (sym is)
+last_reads s k d n r (o ∷ more) is = by_case (reads s k o) refl (last_reads s k (cond (reads s k o) n d) (n + 1) r more is)
   where
-    by_case : (b : Bool) → reads k o ≡ b → (r ≡ cond b n d) ⊎ IsReaderAt k (n + 1) more r → (r ≡ d) ⊎ IsReaderAt k n (o ∷ more) r
+    by_case : (b : Bool) → reads s k o ≡ b → (r ≡ cond b n d) ⊎ IsReaderAt s k (n + 1) more r → (r ≡ d) ⊎ IsReaderAt s k n (o ∷ more) r
     by_case true it (inl same) = inr (0, omega arith, λ e. it)
     by_case false it (inl same) = inl same
     by_case b it (inr later) = let at : r ≡ n + 1 + later.0 = later.1 in inr (suc later.0, omega arith, later.2)
 
 -- a last reader behind the operation itself reads its map
-pub last_one_reads : (k n : ℕ) (operations : List Operation) (d : Operation) → last_reader k k 0 operations ≡ n → k < n → reads k (get_or operations n d) ≡ true
-last_one_reads k n operations d is behind = elim (last_reads k k 0 n operations is) [
+pub last_one_reads : (s : Span) (k n : ℕ) (operations : List Operation) (d : Operation) → last_reader s k k 0 operations ≡ n → k < n → reads s k (get_or operations n d) ≡ true
+last_one_reads s k n operations d is behind = elim (last_reads s k k 0 n operations is) [
   | inl same ↦ absurd (omega arith)
-  | inr at ↦ let place : at.0 ≡ n = (let e : n ≡ 0 + at.0 = at.1 in omega arith) in subst (λ i. reads k (get_or operations i d) ≡ true) place (at.2 d)
+  | inr at ↦ let place : at.0 ≡ n = (let e : n ≡ 0 + at.0 = at.1 in omega arith) in subst (λ i. reads s k (get_or operations i d) ≡ true) place (at.2 d)
 ]
 
 -- ---- four operands, one after the other

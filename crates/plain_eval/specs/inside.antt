@@ -1,3 +1,5 @@
+pub mod Sections
+pub mod Inputs
 pub mod Readers
 pub mod Held
 pub mod Finished

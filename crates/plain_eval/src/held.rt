@@ -1,21 +1,22 @@
 ghost use Rattle.std.specs.Prelude.{◌≡◌, ◌<◌, ◌≤◌, ◌&&◌, ◌==◌, ◌++◌, ◌∷◌, [], ℕ, length, Some, None, OnOk, nat_lt, slice_index_or, if◌then◌else◌};
-ghost use Rattle.map_meaning.specs.Programs.{is_initial};
 ghost use Rattle.plain_eval.specs.inside.Finished.{LetsGo, with_kept};
 ghost use Rattle.plain_eval.specs.inside.Held.{held_at};
 ghost use Rattle.plain_eval.specs.inside.Readers.{NamesBelow, ReadsBelow};
+ghost use Rattle.plain_eval.specs.inside.Sections.{is_own};
 
-use map_meaning::{Map, Operand, Operation, StepMap};
+use crate::site::own_number;
+use map_meaning::{Map, Operand, Operation, Span, StepMap};
 use sqlite_items::Items;
 use std::alloc::AllocError;
 
 // Lets go of the map that an operand names, where the operation n is the last one that reads it.
-fn let_go(held: &mut Items<Option<Map>>, last: &[u32], n: u32, operand: Operand)
-    requires below { NamesBelow (length held.old) operand }
+fn let_go(held: &mut Items<Option<Map>>, last: &[u32], n: u32, span: Span, operand: Operand)
+    requires below { NamesBelow span (length held.old) operand }
     requires known { length held.old ≤ length last.now }
     ensures count { length held.new ≡ length held.old }
-    ensures each { (k : ℕ) → held_at held.new k ≡ (if slice_index_or last.now k 0 == n && is_initial k operand then None else held_at held.old k) }
+    ensures each { (k : ℕ) → held_at held.new k ≡ (if slice_index_or last.now k 0 == n && is_own span k operand then None else held_at held.old k) }
 {
-    if let Operand::Initial(k) = operand {
+    if let Some(k) = own_number(span, operand) {
         let k = k as usize;
         if last[k] == n {
             held.set(k, None);
@@ -24,15 +25,21 @@ fn let_go(held: &mut Items<Option<Map>>, last: &[u32], n: u32, operand: Operand)
 }
 
 /// Lets go of the maps that the operation n is the last one to read.
-pub fn let_go_of_operands(held: &mut Items<Option<Map>>, last: &[u32], n: u32, operation: Operation)
-    requires below { ReadsBelow (length held.old) operation }
+pub fn let_go_of_operands(
+    held: &mut Items<Option<Map>>,
+    last: &[u32],
+    n: u32,
+    span: Span,
+    operation: Operation,
+)
+    requires below { ReadsBelow span (length held.old) operation }
     requires known { length held.old ≤ length last.now }
-    ensures { LetsGo last.now n operation held.old held.new }
+    ensures { LetsGo span last.now n operation held.old held.new }
 {
-    let_go(held, last, n, operation.a);
-    let_go(held, last, n, operation.b);
-    let_go(held, last, n, operation.c);
-    let_go(held, last, n, operation.d);
+    let_go(held, last, n, span, operation.a);
+    let_go(held, last, n, span, operation.b);
+    let_go(held, last, n, span, operation.c);
+    let_go(held, last, n, span, operation.d);
 }
 
 /// Holds the map of the operation n, where a later one reads it.
@@ -47,20 +54,21 @@ pub fn hold(held: &mut Items<Option<Map>>, last: &[u32], n: u32, map: Map) -> Re
     })
 }
 
-/// Keeps the map of the operation n, where it is to be handed out.
+/// Keeps the map of the operation n at a step, where it is to be handed out.
 pub fn keep(
     kept: &mut Items<StepMap>,
+    step: u32,
     n: u32,
     operation: Operation,
     map: &Map,
 ) -> Result<(), AllocError>
-    ensures { OnOk result (kept.new ≡ with_kept kept.old n operation map.now) }
+    ensures { OnOk result (kept.new ≡ with_kept step kept.old n operation map.now) }
 {
     if !operation.kept {
         return Ok(());
     }
     kept.push(StepMap {
-        step: 0,
+        step,
         operation: n,
         cells: map.share()?,
     })

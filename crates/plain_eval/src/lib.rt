@@ -6,8 +6,10 @@
 
 mod arg;
 mod held;
+mod inputs;
 mod readers;
 mod runner;
+mod site;
 mod stage;
 mod value;
 mod work;

@@ -1,31 +1,32 @@
 ghost use Rattle.std.specs.Prelude.{◌≡◌, ◌<◌, ◌≤◌, ℕ, length, All, IfOk, slice_index_or, if◌then◌else◌};
 ghost use Rattle.map_meaning.specs.Limits.{most_operations};
-ghost use Rattle.map_meaning.specs.Programs.{is_initial};
 ghost use Rattle.plain_eval.specs.inside.Readers.{AreLastReaders, NamesBelow, NotesReader, ReadsBelow};
+ghost use Rattle.plain_eval.specs.inside.Sections.{is_own};
 
-use map_meaning::{Operand, Operation};
+use crate::site::own_number;
+use map_meaning::{Operand, Operation, Span};
 use std::alloc::{AllocError, Global};
 
 // Notes that the operation n reads the map that an operand names.
-fn note(last: &mut [u32], n: u32, operand: Operand)
-    requires { NamesBelow (length last.old) operand }
+fn note(last: &mut [u32], n: u32, span: Span, operand: Operand)
+    requires { NamesBelow span (length last.old) operand }
     ensures count { length last.new ≡ length last.old }
-    ensures each { (k : ℕ) → k < length last.old → slice_index_or last.new k 0 ≡ (if is_initial k operand then n else slice_index_or last.old k 0) }
+    ensures each { (k : ℕ) → k < length last.old → slice_index_or last.new k 0 ≡ (if is_own span k operand then n else slice_index_or last.old k 0) }
 {
-    if let Operand::Initial(k) = operand {
+    if let Some(k) = own_number(span, operand) {
         last[k as usize] = n;
     }
 }
 
 // Notes that the operation n reads the maps that its operands name.
-fn note_reader(last: &mut [u32], n: u32, operation: Operation)
-    requires { ReadsBelow (length last.old) operation }
-    ensures { NotesReader n operation last.old last.new }
+fn note_reader(last: &mut [u32], n: u32, span: Span, operation: Operation)
+    requires { ReadsBelow span (length last.old) operation }
+    ensures { NotesReader span n operation last.old last.new }
 {
-    note(last, n, operation.a);
-    note(last, n, operation.b);
-    note(last, n, operation.c);
-    note(last, n, operation.d);
+    note(last, n, span, operation.a);
+    note(last, n, span, operation.b);
+    note(last, n, span, operation.c);
+    note(last, n, span, operation.d);
 }
 
 // The numbers of so many operations.
@@ -41,15 +42,19 @@ fn numbers(alloc: Global, count: usize) -> Result<Vec<u32>, AllocError>
     Ok(numbers)
 }
 
-/// For each operation of a section the number of the last one that reads its map; its own number where none does.
-pub fn last_readers(alloc: Global, operations: &[Operation]) -> Result<Vec<u32>, AllocError>
+/// For each operation of a span's section the number of the last one that reads its map; its own number where none does.
+pub fn last_readers(
+    alloc: Global,
+    span: Span,
+    operations: &[Operation],
+) -> Result<Vec<u32>, AllocError>
     requires few { length operations.now ≤ most_operations }
-    requires below { All (ReadsBelow (length operations.now)) operations.now }
-    ensures { IfOk result (λ last. AreLastReaders operations.now last.items) }
+    requires below { All (ReadsBelow span (length operations.now)) operations.now }
+    ensures { IfOk result (λ last. AreLastReaders span operations.now last.items) }
 {
     let mut last = numbers(alloc, operations.len())?;
     for (n, operation) in operations.iter().enumerate() {
-        note_reader(&mut last, n as u32, *operation);
+        note_reader(&mut last, n as u32, span, *operation);
     }
     Ok(last)
 }

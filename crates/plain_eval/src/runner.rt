@@ -41,8 +41,6 @@ impl BlockRunner for PlainRunner {
         span: Span,
         known: &Arc<Known>,
     ) -> Result<StageEnd, AllocError> {
-        match span {
-            Span::Initial { .. } => stage(alloc, program, known),
-        }
+        stage(alloc, program, span, known)
     }
 }

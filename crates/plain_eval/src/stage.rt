@@ -1,27 +1,35 @@
 ghost use Rattle.std.specs.Prelude.{◌≡◌, IfOk, length};
 ghost use Rattle.map_meaning.specs.Programs.{IsWellFormed};
-ghost use Rattle.map_meaning.specs.Spans.{Knows, stage_of, whole_span};
+ghost use Rattle.map_meaning.specs.Spans.{IsSpan, Knows, stage_of};
 
 use crate::held::{hold, keep, let_go_of_operands};
 use crate::readers::last_readers;
+use crate::site::{own_operations, step_of};
 use crate::value::value;
-use map_meaning::{Known, Program, StageEnd};
+use map_meaning::{Known, Program, Span, StageEnd};
 use sqlite_items::Items;
 use std::alloc::{AllocError, Global};
 
-/// The kept maps of the section `initial`, or its first Over.
-pub fn stage(alloc: Global, program: &Program, known: &Known) -> Result<StageEnd, AllocError>
+/// The kept maps of a span of one step, or its first Over.
+pub fn stage(
+    alloc: Global,
+    program: &Program,
+    span: Span,
+    known: &Known,
+) -> Result<StageEnd, AllocError>
     requires program { IsWellFormed program.now }
-    requires known { Knows program.now (whole_span program.now) known.now }
-    ensures { IfOk result (λ end. end ≡ stage_of program.now (whole_span program.now) known.now) }
+    requires span { IsSpan program.now span 1 }
+    requires known { Knows program.now span known.now }
+    ensures { IfOk result (λ end. end ≡ stage_of program.now span known.now) }
 {
-    let operations = program.initial.as_slice();
-    let last = last_readers(alloc, operations)?;
+    let step = step_of(span);
+    let operations = own_operations(program, span);
+    let last = last_readers(alloc, span, operations)?;
     let mut held = Items::new(alloc);
     let mut kept = Items::new(alloc);
     for (n, operation) in operations.iter().enumerate() {
         let n = n as u32;
-        let map = match value(alloc, program, *operation, known, held.as_slice())? {
+        let map = match value(alloc, program, *operation, span, known, held.as_slice())? {
             Ok(map) => map,
             Err(at) => {
                 return Ok(StageEnd {
@@ -30,8 +38,8 @@ pub fn stage(alloc: Global, program: &Program, known: &Known) -> Result<StageEnd
                 });
             }
         };
-        keep(&mut kept, n, *operation, &map)?;
-        let_go_of_operands(&mut held, &last, n, *operation);
+        keep(&mut kept, step, n, *operation, &map)?;
+        let_go_of_operands(&mut held, &last, n, span, *operation);
         hold(&mut held, &last, n, map)?;
     }
     Ok(StageEnd {

@@ -1,14 +1,15 @@
 ghost use Rattle.std.specs.Prelude.{◌≡◌, ◌<◌, ◌≤◌, ◌*◌, ℕ, IfOk};
 ghost use Rattle.map_meaning.specs.Evaluation.{operation_part, operation_value};
 ghost use Rattle.map_meaning.specs.Overs.{over_at as five_numbers};
-ghost use Rattle.map_meaning.specs.Spans.{scene_of};
 ghost use Rattle.plain_eval.specs.inside.Held.{AreThere, IsOneOf, done_of};
+ghost use Rattle.plain_eval.specs.inside.Sections.{scene_in};
 ghost use Rattle.text_base.specs.Limits.{most_cells};
 
 use crate::arg::arg;
+use crate::site::step_of;
 use crate::work::work;
 use cell_ops::cell_part;
-use map_meaning::{Known, Map, Operation, OverAt, Part, Program};
+use map_meaning::{Known, Map, Operation, OverAt, Part, Program, Span};
 use std::alloc::{AllocError, Global};
 
 // The map of an operation with its first Over.
@@ -16,34 +17,35 @@ fn part(
     alloc: Global,
     program: &Program,
     operation: Operation,
+    span: Span,
     known: &Known,
     held: &[Option<Map>],
 ) -> Result<Part, AllocError>
     requires few { known.now.rows * known.now.cols ≤ most_cells }
-    requires operation { IsOneOf program.now operation }
-    requires operands { AreThere (known.now.rows * known.now.cols) known.now.maps held.now operation }
-    ensures { IfOk result (λ part. part ≡ operation_part program.now (scene_of known.now 0) (done_of held.now) operation) }
+    requires operation { IsOneOf program.now known.now operation }
+    requires operands { AreThere program.now span known.now held.now operation }
+    ensures { IfOk result (λ part. part ≡ operation_part program.now (scene_in program.now span known.now) (done_of program.now span known.now held.now) operation) }
 {
     let places = known.rows as usize * known.cols as usize;
     cell_part(
         alloc,
-        work(program, operation),
+        work(program, operation, step_of(span), known),
         places,
-        arg(operation.a, known, held),
-        arg(operation.b, known, held),
-        arg(operation.c, known, held),
-        arg(operation.d, known, held),
+        arg(operation.a, program, span, known, held),
+        arg(operation.b, program, span, known, held),
+        arg(operation.c, program, span, known, held),
+        arg(operation.d, program, span, known, held),
     )
 }
 
 // The five numbers of an Over at this place.
-fn over_at(known: &Known, operation: Operation, place: u32) -> OverAt
+fn over_at(_program: &Program, span: Span, known: &Known, operation: Operation, place: u32) -> OverAt
     requires some { 0 < known.now.cols }
     requires few { place < most_cells }
-    ensures { result ≡ five_numbers (scene_of known.now 0) operation.statement operation.number place }
+    ensures { result ≡ five_numbers (scene_in _program.now span known.now) operation.statement operation.number place }
 {
     OverAt {
-        step: 0,
+        step: step_of(span),
         statement: operation.statement,
         operation: operation.number,
         row: place / known.cols + 1,
@@ -56,18 +58,19 @@ pub fn value(
     alloc: Global,
     program: &Program,
     operation: Operation,
+    span: Span,
     known: &Known,
     held: &[Option<Map>],
 ) -> Result<Result<Map, OverAt>, AllocError>
     requires some { 0 < known.now.cols }
     requires few { known.now.rows * known.now.cols ≤ most_cells }
-    requires operation { IsOneOf program.now operation }
-    requires operands { AreThere (known.now.rows * known.now.cols) known.now.maps held.now operation }
-    ensures { IfOk result (λ value. value ≡ operation_value program.now (scene_of known.now 0) (done_of held.now) operation) }
+    requires operation { IsOneOf program.now known.now operation }
+    requires operands { AreThere program.now span known.now held.now operation }
+    ensures { IfOk result (λ value. value ≡ operation_value program.now (scene_in program.now span known.now) (done_of program.now span known.now held.now) operation) }
 {
-    let Part { cells, over } = part(alloc, program, operation, known, held)?;
+    let Part { cells, over } = part(alloc, program, operation, span, known, held)?;
     match over {
-        Some(place) => Ok(Err(over_at(known, operation, place))),
+        Some(place) => Ok(Err(over_at(program, span, known, operation, place))),
         None => Ok(Ok(Map::new(alloc, cells)?)),
     }
 }

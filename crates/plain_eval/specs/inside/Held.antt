@@ -1,21 +1,50 @@
 -- The maps that are held between operations: those that a later operation reads.
-use Rattle.std.specs.Prelude.{◌≡◌, ◌<◌, ℕ, List, [], length, map, Option, Some, None, slice_index_or, ⊤}
+use Rattle.std.specs.Prelude.{◌≡◌, ◌<◌, ◌≤◌, ℕ, ◌*◌, ◌==◌, List, [], ◌∷◌, length, map, Option, Some, None, slice_index_or, ⊤, true, false}
+use Rattle.cell_ops.specs.declared.work.CellWork.{CellWork}
+use Rattle.cell_ops.specs.declared.work.CellWork.TheVariants.{Lookup}
+use Rattle.tile_map.specs.Parts.{tabulate}
+use Rattle.map_meaning.specs.declared.known.Known.{Known}
+use Rattle.map_meaning.specs.declared.known.Span.{Span}
+use Rattle.map_meaning.specs.declared.known.Span.TheVariants as span
 use Rattle.map_meaning.specs.declared.program.Operand.{Operand}
-use Rattle.map_meaning.specs.declared.program.Operand.TheVariants.{Input, Initial}
+use Rattle.map_meaning.specs.declared.program.Operand.TheVariants.{Time, Input, Stack, Initial, Now, Last}
 use Rattle.map_meaning.specs.declared.program.Operation.{Operation}
 use Rattle.map_meaning.specs.declared.program.Program.{Program}
 use Rattle.map_meaning.specs.Evaluation.{Done}
 use Rattle.map_meaning.specs.Maps.{WholeMap, nth}
-use Rattle.map_meaning.specs.Programs.{IsOperation}
+use Rattle.cell_values.specs.declared.kind.Kind.{Kind}
+use Rattle.map_meaning.specs.declared.known.StepMap.{StepMap}
+use Rattle.map_meaning.specs.declared.program.Role.{Role}
+use Rattle.map_meaning.specs.declared.program.Role.TheVariants.{Table, Series}
+use Rattle.map_meaning.specs.Programs.{are_used_first, file_role, is_grid_role, is_series_role, is_table_role, is_unused, kinds_of, operand_kind, operands_of}
+use Rattle.map_meaning.specs.Limits.{most_inputs}
+use Rattle.map_meaning.specs.Rules.{kind_at, no_series, no_table}
+use Rattle.map_meaning.specs.Table.{HasKinds, map_row, row_of}
+use Rattle.map_meaning.specs.Scenes.{map_at_step}
+use Rattle.map_meaning.specs.Spans.{AreAscending, at_inputs, kept_map}
+use Rattle.plain_eval.specs.inside.Inputs.{many_before}
 
 -- a map, or an empty one where it was let go
 abbrev pub or_empty : Option WholeMap → WholeMap
 or_empty None = []
 or_empty (Some m) = m
 
+-- what is done in `initial`
+abbrev pub initial_done : List (Option WholeMap) → Done
+initial_done held = record { initial = map or_empty held; dynamic = []; last = [] }
+
+-- what is done in a step
+abbrev pub step_done : Program → Known → List (Option WholeMap) → Done
+step_done program known held = record {
+  initial = tabulate (kept_map known.initial) (length program.initial);
+  dynamic = map or_empty held;
+  last = tabulate (kept_map known.last) (length program.dynamic);
+}
+
 -- the maps of the operations that are done, where one that was let go counts as empty
-abbrev pub done_of : List (Option WholeMap) → Done
-done_of held = record { initial = map or_empty held }
+abbrev pub done_of : Program → Span → Known → List (Option WholeMap) → Done
+done_of program (span.Initial first end) known held = initial_done held
+done_of program (span.Steps first last) known held = step_done program known held
 
 -- the map of the operation k, where it is held
 abbrev pub held_at : List (Option WholeMap) → ℕ → Option WholeMap
@@ -26,21 +55,99 @@ abbrev pub IsHeld : ℕ → Option WholeMap → Type 0
 IsHeld places None = ⊥
 IsHeld places (Some m) = length m ≡ places
 
--- the map that an operand names is there, with so many cells
-abbrev pub IsThere : ℕ → List WholeMap → List (Option WholeMap) → Operand → Type 0
-IsThere places maps held (Input n) = (n < length maps) × (length (nth maps n) ≡ places)
-IsThere places maps held (Initial n) = (n < length held) × IsHeld places (held_at held n)
-IsThere places maps held _ = ⊤
+-- the map of the operation k is held, with so many cells
+pub record HasHeld (places : ℕ) (held : List (Option WholeMap)) (k : ℕ) : Type 0 where
+  pub within : k < length held
+  pub is : IsHeld places (held_at held k)
+
+-- the map of the operation k of so many is known, with so many cells
+pub record HasKept (places : ℕ) (maps : List StepMap) (count k : ℕ) : Type 0 where
+  pub within : k < count
+  pub order : AreAscending maps
+  pub some : 0 < length (kept_map maps k)
+  pub size : length (kept_map maps k) ≡ places
+
+-- the grid of the input with this number is known, with so many cells
+pub record HasGrid (program : Program) (known : Known) (n : ℕ) : Type 0 where
+  pub within : n < length program.inputs
+  pub few : n ≤ most_inputs
+  pub there : many_before is_grid_role program.inputs n < length known.maps
+  pub is : nth known.maps (many_before is_grid_role program.inputs n) ≡ nth (at_inputs is_grid_role [] program.inputs known.maps) n
+  pub size : length (nth known.maps (many_before is_grid_role program.inputs n)) ≡ known.rows * known.cols
+
+-- the map of a name at the step before is known, with so many cells
+pub record HasLast (program : Program) (step : ℕ) (known : Known) (dynamic initial : ℕ) : Type 0 where
+  pub begun : (step == 1) ≡ true → HasKept (known.rows * known.cols) known.initial (length program.initial) initial
+  pub carried : (step == 1) ≡ false → HasKept (known.rows * known.cols) known.last (length program.dynamic) dynamic
+
+-- the map that an operand of `initial` names is there
+abbrev pub IsThereInitially : Program → Known → List (Option WholeMap) → Operand → Type 0
+IsThereInitially program known held (Input n) = HasGrid program known n
+IsThereInitially program known held (Initial n) = HasHeld (known.rows * known.cols) held n
+IsThereInitially program known held Time = ⊥
+IsThereInitially program known held (Stack n) = ⊥
+IsThereInitially program known held (Now n) = ⊥
+IsThereInitially program known held (Last dynamic initial) = ⊥
+IsThereInitially program known held _ = ⊤
+
+-- the map that an operand of `dynamic` names is there
+abbrev pub IsThereAtStep : Program → ℕ → Known → List (Option WholeMap) → Operand → Type 0
+IsThereAtStep program step known held (Input n) = HasGrid program known n
+IsThereAtStep program step known held (Stack n) = length (map_at_step known.stacks step n) ≡ known.rows * known.cols
+IsThereAtStep program step known held (Initial n) = HasKept (known.rows * known.cols) known.initial (length program.initial) n
+IsThereAtStep program step known held (Now n) = HasHeld (known.rows * known.cols) held n
+IsThereAtStep program step known held (Last dynamic initial) = HasLast program step known dynamic initial
+IsThereAtStep program step known held _ = ⊤
+
+-- the map that an operand names is there, with all its cells
+abbrev pub IsThere : Program → Span → Known → List (Option WholeMap) → Operand → Type 0
+IsThere program (span.Initial first end) known held operand = IsThereInitially program known held operand
+IsThere program (span.Steps first last) known held operand = IsThereAtStep program first known held operand
 
 -- the maps that an operation reads are there
-pub record AreThere (places : ℕ) (maps : List WholeMap) (held : List (Option WholeMap)) (o : Operation) : Type 0 where
-  pub a : IsThere places maps held o.a
-  pub b : IsThere places maps held o.b
-  pub c : IsThere places maps held o.c
-  pub d : IsThere places maps held o.d
+pub record AreThere (program : Program) (s : Span) (known : Known) (held : List (Option WholeMap)) (o : Operation) : Type 0 where
+  pub a : IsThere program s known held o.a
+  pub b : IsThere program s known held o.b
+  pub c : IsThere program s known held o.c
+  pub d : IsThere program s known held o.d
 
--- the operation is one of the program's
-pub record IsOneOf (program : Program) (o : Operation) : Type 0 where
-  pub number : ℕ
-  pub within : number < length program.initial
-  pub is : IsOperation program number o
+-- an operand that is there has a kind
+abbrev pub HasItsKind : Program → Operand → Type 0
+HasItsKind program operand = is_unused operand ≡ false → (kind : Kind) × (operand_kind program operand ≡ Some kind)
+
+-- the table of an operation is known, at its place among the tables
+pub record HasTable (program : Program) (known : Known) (n : ℕ) : Type 0 where
+  pub within : n < length program.inputs
+  pub few : n ≤ most_inputs
+  pub there : many_before is_table_role program.inputs n < length known.tables
+  pub is : slice_index_or known.tables (many_before is_table_role program.inputs n) no_table ≡ slice_index_or (at_inputs is_table_role no_table program.inputs known.tables) n no_table
+
+-- the series of an operation is known, at its place among the series
+pub record HasSeries (program : Program) (known : Known) (n : ℕ) : Type 0 where
+  pub within : n < length program.inputs
+  pub few : n ≤ most_inputs
+  pub there : many_before is_series_role program.inputs n < length known.series
+  pub is : slice_index_or known.series (many_before is_series_role program.inputs n) no_series ≡ slice_index_or (at_inputs is_series_role no_series program.inputs known.series) n no_series
+
+-- what an operation looks its results up in is known
+abbrev pub HasFile : Program → Known → Option Role → ℕ → Type 0
+HasFile program known (Some (Table keys)) n = HasTable program known n
+HasFile program known (Some Series) n = HasSeries program known n
+HasFile program known _ n = ⊤
+
+-- the operation is one of the program's: it has operands of kinds that the table of operations allows, and its file is known
+pub record IsOneOf (program : Program) (known : Known) (o : Operation) : Type 0 where
+  pub used : are_used_first (operands_of o) ≡ true
+  pub a : HasItsKind program o.a
+  pub b : HasItsKind program o.b
+  pub c : HasItsKind program o.c
+  pub d : HasItsKind program o.d
+  pub kinds : HasKinds (map_row (row_of o.op)) (kinds_of program o) o.kind
+  pub file : HasFile program known (file_role o.op (length (kinds_of program o))) o.file
+
+-- the work is that of a lookup: its table, and the kinds of its operands
+abbrev pub IsLookup : Program → Known → Operation → CellWork → Type 0
+IsLookup program known o (Lookup table keys) =
+    (table.now ≡ slice_index_or (at_inputs is_table_role no_table program.inputs known.tables) o.file no_table) ×
+    ((i : ℕ) → i < 4 → kind_at keys i ≡ kind_at (kinds_of program o) i)
+IsLookup program known o _ = ⊥
