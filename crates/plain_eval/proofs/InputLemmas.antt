@@ -1,13 +1,15 @@
 -- Inputs of a role by their places, and maps by their numbers.
-use Rattle.std.proofs.Common.{◌≡◌, ℕ, zero, suc, ◌+◌, ◌<◌, ◌≤◌, Bool, true, false, cond, nat_lt, nat_eq, List, [], ◌∷◌, length, get_or, refl, sym, ap, subst, ◌∙◌, inl, inr, ◌⊎◌, arith}
+use Rattle.std.proofs.Common.{◌≡◌, ℕ, zero, suc, ◌+◌, ◌<◌, ◌≤◌, Bool, true, false, cond, nat_lt, ◌&&◌, List, [], ◌∷◌, length, drop, get_or, refl, sym, ap, subst, ◌∙◌, inl, inr, ◌⊎◌, arith}
 use Rattle.std.specs.Prelude.{Some, None, Option, slice_get, slice_index_or, ◌==◌}
 use Rattle.std.specs.List.{AllPairs, AllZip, filter}
 use Rattle.std.specs.List.Sorted.{IsPartitionedBy}
 use Rattle.std.proofs.Math.Nat.{eq-or-lt_of_le}
+use Rattle.std.proofs.lemmas.List.{drop_all, drop_more}
 use Rattle.std.proofs.lemmas.Bool.{cases_order, eqb-true, lt-ltb, ltb-false, ltb-true}
 use Rattle.map_meaning.specs.declared.known.StepMap.{StepMap}
 use Rattle.map_meaning.specs.declared.program.InputUse.{InputUse}
 use Rattle.map_meaning.specs.declared.program.Role.{Role}
+use Rattle.map_meaning.specs.Scenes.{map_at_step}
 use Rattle.map_meaning.specs.Spans.{AreAscending, AreOfInputs, at_inputs, kept_map}
 use Rattle.plain_eval.specs.inside.Inputs.{KeptBefore, many_before}
 
@@ -124,7 +126,7 @@ kept_point maps n place d ascending some point =
     by_order : (i : ℕ) → IsKeptAt maps n i → (i ≡ place) ⊎ ((i < place) ⊎ (place < i)) → IsKeptAt maps n place
     by_order i at (inl same) = subst (IsKeptAt maps n) same at
     by_order i at (inr (inl less)) =
-        let below : (get_or maps i d).operation < n = ltb-true (get_or maps i d).operation n (point.0 i d at.within less) in
+        let below : (get_or maps i d).operation < n = ltb-true (get_or maps i d).operation n (point.0 i d (omega arith) less) in
         let same : (get_or maps i d).operation ≡ n = at.number d in
         absurd (omega arith)
     by_order i at (inr (inr more)) =
@@ -133,3 +135,19 @@ kept_point maps n place d ascending some point =
         let next : (get_or maps place d).operation < (get_or maps i d).operation = ascending place i d more i_in in
         let same : (get_or maps i d).operation ≡ n = at.number d in
         absurd (omega arith)
+
+-- ---- maps by their steps and numbers
+
+-- the map that is asked for stands here
+pub at_here : (maps : List StepMap) (i step n : ℕ) (m : StepMap) → m ≡ get_or maps i m → i < length maps → ((m.step == step) && (m.operation == n)) ≡ true → map_at_step (drop i maps) step n ≡ m.cells
+at_here maps i step n m is within h =
+    ap (λ maps. map_at_step maps step n) (drop_more maps i m within ∙ ap (λ (m : StepMap). m ∷ drop (i + 1) maps) (sym is)) ∙ ap (λ b. cond b m.cells (map_at_step (drop (i + 1) maps) step n)) h
+
+-- or behind this place
+pub at_later : (maps : List StepMap) (i step n : ℕ) (m : StepMap) → m ≡ get_or maps i m → i < length maps → ((m.step == step) && (m.operation == n)) ≡ false → map_at_step (drop i maps) step n ≡ map_at_step (drop (i + 1) maps) step n
+at_later maps i step n m is within h =
+    ap (λ maps. map_at_step maps step n) (drop_more maps i m within ∙ ap (λ (m : StepMap). m ∷ drop (i + 1) maps) (sym is)) ∙ ap (λ b. cond b m.cells (map_at_step (drop (i + 1) maps) step n)) h
+
+-- or nowhere
+pub at_end : (maps : List StepMap) (i step n : ℕ) → length maps ≤ i → map_at_step (drop i maps) step n ≡ []
+at_end maps i step n past = ap (λ maps. map_at_step maps step n) (drop_all i maps past)

@@ -1,6 +1,6 @@
 //! The inputs of a role, which are known in the order of the inputs, and maps that are known by their numbers.
 
-ghost use Rattle.std.specs.Prelude.{◌≡◌, ◌<◌, ◌≤◌, ◌+◌, ℕ, length, if◌then◌else◌};
+ghost use Rattle.std.specs.Prelude.{◌≡◌, ◌<◌, ◌≤◌, ◌+◌, ◌==◌, ◌&&◌, ℕ, length, if◌then◌else◌};
 ghost use Rattle.map_meaning.specs.Limits.{most_inputs};
 ghost use Rattle.map_meaning.specs.Scenes.{map_at_step};
 ghost use Rattle.map_meaning.specs.Spans.{AreAscending, kept_map};
@@ -61,12 +61,19 @@ pub fn kept_cells(maps: &[StepMap], n: u32) -> &[Cell]
     maps[place].cells.cells()
 }
 
+// Whether the map is that of this number at a step.
+fn is_at(map: &StepMap, step: u32, n: u32) -> bool
+    ensures { result ≡ (map.now.step == step && map.now.operation == n) }
+{
+    map.step == step && map.operation == n
+}
+
 /// The grid of the stack that is the input with this number, at a step; an empty one where it is not known.
 pub fn stack_cells(stacks: &[StepMap], step: u32, n: u32) -> &[Cell]
     ensures { result.now ≡ map_at_step stacks.now step n }
 {
     for grid in stacks {
-        if grid.step == step && grid.operation == n {
+        if is_at(grid, step, n) {
             return grid.cells.cells();
         }
     }

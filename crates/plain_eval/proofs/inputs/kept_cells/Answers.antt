@@ -1,5 +1,4 @@
-use Rattle.std.proofs.Common.{[], ◌∙◌, ap}
-use Rattle.map_meaning.specs.declared.known.StepMap.{StepMap}
+use Rattle.std.proofs.Common.{[], ◌∙◌}
 use Rattle.plain_eval.proofs.InputLemmas.{kept_point}
 use Rattle.plain_eval.proofs.inputs.kept_cells.Goals as goal
 
@@ -9,5 +8,4 @@ bounds-maps-place c = (kept_point c.args.maps.now c.args.n c.count_kept_before-p
 pub returns : goal.returns
 returns c =
     c.cells.ensures
-    ∙ (ap (λ (m : StepMap). m.cells) c.index-maps-place.is
-    ∙ (kept_point c.args.maps.now c.args.n c.count_kept_before-place.result c.index-maps-place.result c.requires.order c.requires.there c.count_kept_before-place.ensures.point).cells c.index-maps-place.result)
+    ∙ (kept_point c.args.maps.now c.args.n c.count_kept_before-place.result c.index-maps-place.result c.requires.order c.requires.there c.count_kept_before-place.ensures.point).cells c.index-maps-place.result
