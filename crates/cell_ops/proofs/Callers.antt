@@ -1,18 +1,17 @@
 -- What the crates above cite.
-use Rattle.std.proofs.Common.{◌≡◌, ℕ, ◌<◌, ◌==◌, cond, nat_lt, true, List, [], refl, sym, ap, ◌∙◌, subst, arith}
-use Rattle.std.specs.Prelude.{Some, None, Option, Ok, ℤ, pos}
+use Rattle.std.proofs.Common.{◌≡◌, ℕ, ◌<◌, cond, nat_lt, true, List, [], refl, sym, ap, ◌∙◌, subst, arith}
+use Rattle.std.specs.Prelude.{Some, Ok, pos}
 use Rattle.cell_values.specs.declared.kind.Kind.{Kind}
 use Rattle.cell_values.specs.declared.kind.Kind.TheVariants.{Boolean, Nominal, Ordinal, Scalar, Directional}
 use Rattle.cell_values.specs.declared.cell.Cell.{Cell}
 use Rattle.cell_values.specs.Conversion.{conversion_of}
 use Rattle.lookup_table.specs.Form.{TableValue}
-use Rattle.time_series.specs.Form.{SeriesValue}
 use Rattle.tile_map.specs.Parts.{Outcome}
 use Rattle.map_meaning.specs.declared.op.Op.{Op}
 use Rattle.map_meaning.specs.declared.op.Op.TheVariants as op
-use Rattle.map_meaning.specs.Local.{further_key, key_number, lookup_of, timeinput_of, value_at_keys}
+use Rattle.map_meaning.specs.Local.{key_number, lookup_of, timeinput_of, value_at_keys}
 use Rattle.map_meaning.specs.Maps.{CellAt}
-use Rattle.map_meaning.specs.Rules.{Rule, Local, Setting, by_rule, kind_at, of_kinds, operand_at, outcome_of, rule_of}
+use Rattle.map_meaning.specs.Rules.{Rule, Local, Setting, by_rule, kind_at, of_kinds, operand_at, rule_of}
 use Rattle.cell_ops.specs.declared.work.CellWork.{CellWork}
 use Rattle.cell_ops.specs.declared.work.CellWork.TheVariants.{Plain, Convert, Lookup, SeriesAt}
 use Rattle.cell_ops.specs.Work.{GiveTheMeaning, IsWorkOf, converts_to, is_lookup, is_plain, is_timeinput, of_cells, work_outcome}

@@ -1,13 +1,12 @@
 -- Maps with all their cells, of their kind: those of operations whose operands are such.
 use Rattle.std.proofs.Common.{◌≡◌, ℕ, zero, suc, ◌+◌, ◌*◌, ◌<◌, ◌≤◌, Bool, true, false, cond, List, [], ◌∷◌, ◌++◌, length, map, refl, sym, ap, subst, ◌∙◌, Ok, Err, Result, arith, ◌⊎◌, inl, inr, length-append}
-use Rattle.std.specs.Prelude.{◌==◌, All, Option, None, Some, IfSome, slice_get, slice_index_or, option_map, ⊤, pos}
+use Rattle.std.specs.Prelude.{◌==◌, All, Option, None, Some, IfSome, slice_get, slice_index_or, option_map, ⊤}
 use Rattle.std.specs.List.{AllZip, filter, filter_map, cons_option, list_all, list_any}
 use Rattle.std.proofs.lemmas.Bool.{eq-eqb, or_left, or_right}
 use Rattle.std.proofs.lemmas.Int.{ints}
 use Rattle.std.proofs.lemmas.List.{get_or_append_left}
 use Rattle.std.proofs.Math.Seq.{get_or-append_seam}
 use Rattle.std.proofs.lemmas.List.Elements.{All-cons, All-nil, All-from_get_or}
-use Rattle.std.proofs.lemmas.Option.{slice_get_within}
 use Rattle.text_base.specs.Results.{◌>>=◌}
 use Rattle.cell_values.specs.declared.kind.Kind.{Kind}
 use Rattle.cell_values.specs.declared.kind.Kind.TheVariants as kinds
@@ -18,7 +17,6 @@ use Rattle.tile_map.specs.Parts.{IsPart, Outcome, or_missing, part_of}
 use Rattle.map_meaning.specs.declared.known.Known.{Known}
 use Rattle.map_meaning.specs.declared.known.OverAt.{OverAt}
 use Rattle.map_meaning.specs.declared.known.Span.{Span}
-use Rattle.map_meaning.specs.declared.known.Span.TheVariants as span
 use Rattle.map_meaning.specs.declared.program.InputUse.{InputUse}
 use Rattle.map_meaning.specs.declared.program.Operand.{Operand}
 use Rattle.map_meaning.specs.declared.program.Operand.TheVariants.{Unused, Literal, Time, Input, Initial, Now, Last}
@@ -35,7 +33,7 @@ use Rattle.map_meaning.specs.Rules.{no_series, no_table}
 use Rattle.map_meaning.specs.Scenes.{Scene, place_count, setting_at, stack_map}
 use Rattle.map_meaning.specs.Overs.{map_or_over}
 use Rattle.map_meaning.specs.Programs.{AreOneName, AreOperations, AreStepOperations, IsBelow, IsBelowNow, IsFileOf, IsInput, IsOperation, IsOperationOf, IsStepOperation}
-use Rattle.map_meaning.specs.Programs.{are_used_first, file_role, input_kind, is_carried, is_grid_role, is_initial, is_last, is_read_in_steps, is_series_role, is_stack_role, is_table_role, is_unused, kinds_of, operand_kind, operands_of, operation_kind}
+use Rattle.map_meaning.specs.Programs.{are_used_first, file_role, input_kind, is_carried, is_grid_role, is_initial, is_last, is_read_in_steps, is_series_role, is_table_role, is_unused, kinds_of, operand_kind, operands_of, operation_kind}
 use Rattle.map_meaning.specs.Spans.{AreInputMaps, AreOfInputs, HasSeriesKind, HasTableKind, IsTableOf, at_inputs, kept_maps, scene_of}
 use Rattle.tile_map.proofs.Callers.{is_part-part_of}
 use Rattle.map_meaning.proofs.InKinds.{in_kind}

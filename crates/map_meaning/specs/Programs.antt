@@ -8,7 +8,6 @@ use Rattle.cell_values.specs.declared.kind.Kind.TheVariants as kinds
 use Rattle.cell_values.specs.Kinds.{IsCell}
 use Rattle.map_meaning.specs.declared.op.Op.{Op}
 use Rattle.map_meaning.specs.declared.op.Op.TheVariants as op
-use Rattle.map_meaning.specs.declared.program.InputUse.{InputUse}
 use Rattle.map_meaning.specs.declared.program.Operand.{Operand}
 use Rattle.map_meaning.specs.declared.program.Operand.TheVariants.{Unused, Literal, Time, Input, Initial, Now, Last}
 use Rattle.map_meaning.specs.declared.program.Operand.TheVariants as from

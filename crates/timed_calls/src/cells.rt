@@ -36,7 +36,7 @@ fn drawn(alloc: Global, places: u32, step: u64, shift: u32) -> Result<Vec<Cell>,
 // How many cells the operation gives.
 fn computed(
     alloc: Global,
-    work: CellWork,
+    work: CellWork<'_>,
     a: &[Cell],
     b: &[Cell],
     c: &[Cell],
@@ -64,7 +64,7 @@ fn time_work<R: Clock + Print + AllocGlobal>(
     rt: &R,
     rounds: u32,
     name: &str,
-    work: CellWork,
+    work: CellWork<'_>,
     a: &[Cell],
     b: &[Cell],
     c: &[Cell],

@@ -13,11 +13,12 @@ use Rattle.text_base.specs.Words.{is_file_word}
 use Rattle.map_meaning.specs.declared.program.InputUse.{InputUse}
 use Rattle.map_meaning.specs.declared.program.Operation.{Operation}
 use Rattle.map_meaning.specs.declared.program.OutputUse.{OutputUse}
-use Rattle.map_meaning.specs.declared.program.Role.TheVariants.{Grid}
+use Rattle.map_meaning.specs.declared.program.Role.{Role}
+use Rattle.map_meaning.specs.declared.program.Role.TheVariants.{Grid, Stack, Table, Series}
 use Rattle.map_meaning.specs.declared.row.Row.{Row}
 use Rattle.map_meaning.specs.Rules.{kind_at}
-use Rattle.map_meaning.specs.Programs.{AreOperations, IsInput, IsOutput, IsWellFormed, StandsBefore}
-use Rattle.map_meaning.specs.Table.{HasKinds, allows, ask_at, common_kind, given_kind, has_count, row_of}
+use Rattle.map_meaning.specs.Programs.{AreOperations, IsInput, IsOutput, IsWellFormed, StandsBefore, SuitsRole, is_grid_role}
+use Rattle.map_meaning.specs.Table.{HasKinds, allows, ask_at, common_kind, given_kind, has_count, map_row, row_of}
 use Rattle.worked_models.specs.Chain.{chain_inputs, chain_operations, chain_outputs, chain_program}
 
 -- ---- kinds
@@ -52,35 +53,35 @@ three_kinds line j k l kind count first second third gives = record { count = co
     each (suc (suc (suc i))) below = absurd (omega arith)
 
 -- the rows
-minimum : HasKinds (row_of op.Min) (Scalar ∷ Scalar ∷ []) Scalar
+minimum : HasKinds (map_row (row_of op.Min)) (Scalar ∷ Scalar ∷ []) Scalar
 unfolding row_of
 minimum = two_kinds _ Scalar Scalar Scalar refl refl refl refl
 
-to_boolean : HasKinds (row_of op.ToBoolean) (Scalar ∷ []) Boolean
+to_boolean : HasKinds (map_row (row_of op.ToBoolean)) (Scalar ∷ []) Boolean
 unfolding row_of
 to_boolean = one_kind _ Scalar Boolean refl refl refl
 
-choice : HasKinds (row_of op.IfElse) (Boolean ∷ Scalar ∷ Scalar ∷ []) Scalar
+choice : HasKinds (map_row (row_of op.IfElse)) (Boolean ∷ Scalar ∷ Scalar ∷ []) Scalar
 unfolding row_of
 choice = three_kinds _ Boolean Scalar Scalar Scalar refl refl refl refl refl
 
-product : HasKinds (row_of op.Mul) (Scalar ∷ Scalar ∷ []) Scalar
+product : HasKinds (map_row (row_of op.Mul)) (Scalar ∷ Scalar ∷ []) Scalar
 unfolding row_of
 product = two_kinds _ Scalar Scalar Scalar refl refl refl refl
 
-sum : HasKinds (row_of op.Add) (Scalar ∷ Scalar ∷ []) Scalar
+sum : HasKinds (map_row (row_of op.Add)) (Scalar ∷ Scalar ∷ []) Scalar
 unfolding row_of
 sum = two_kinds _ Scalar Scalar Scalar refl refl refl refl
 
-to_nominal : HasKinds (row_of op.ToNominal) (Scalar ∷ []) Nominal
+to_nominal : HasKinds (map_row (row_of op.ToNominal)) (Scalar ∷ []) Nominal
 unfolding row_of
 to_nominal = one_kind _ Scalar Nominal refl refl refl
 
-copy : HasKinds (row_of op.CopyOf) (Scalar ∷ []) Scalar
+copy : HasKinds (map_row (row_of op.CopyOf)) (Scalar ∷ []) Scalar
 unfolding row_of
 copy = one_kind _ Scalar Scalar refl refl refl
 
-negative : HasKinds (row_of op.Neg) (Scalar ∷ []) Scalar
+negative : HasKinds (map_row (row_of op.Neg)) (Scalar ∷ []) Scalar
 unfolding row_of
 negative = one_kind _ Scalar Scalar refl refl refl
 
@@ -122,23 +123,23 @@ input_is (suc (suc n)) below = absurd (omega arith)
 -- the operations
 operations_are : AreOperations chain_program 0 chain_operations
 operations_are = (
-  record { a = input_is 0 (omega arith); b = input_is 1 (omega arith); c = tt; d = tt; used = refl; kinds = minimum; kept = refl },
+  record { a = input_is 0 (omega arith); b = input_is 1 (omega arith); c = tt; d = tt; used = refl; kinds = minimum; file = tt; kept = refl },
   (
-    record { a = omega arith; b = value-from_test Scalar (pos 2000000) refl; c = tt; d = tt; used = refl; kinds = minimum; kept = refl },
+    record { a = omega arith; b = value-from_test Scalar (pos 2000000) refl; c = tt; d = tt; used = refl; kinds = minimum; file = tt; kept = refl },
     (
-      record { a = omega arith; b = tt; c = tt; d = tt; used = refl; kinds = to_boolean; kept = refl },
+      record { a = omega arith; b = tt; c = tt; d = tt; used = refl; kinds = to_boolean; file = tt; kept = refl },
       (
-        record { a = omega arith; b = input_is 0 (omega arith); c = value-from_test Scalar (pos 7000000) refl; d = tt; used = refl; kinds = choice; kept = refl },
+        record { a = omega arith; b = input_is 0 (omega arith); c = value-from_test Scalar (pos 7000000) refl; d = tt; used = refl; kinds = choice; file = tt; kept = refl },
         (
-          record { a = omega arith; b = input_is 1 (omega arith); c = tt; d = tt; used = refl; kinds = product; kept = refl },
+          record { a = omega arith; b = input_is 1 (omega arith); c = tt; d = tt; used = refl; kinds = product; file = tt; kept = refl },
           (
-            record { a = omega arith; b = omega arith; c = tt; d = tt; used = refl; kinds = sum; kept = refl },
+            record { a = omega arith; b = omega arith; c = tt; d = tt; used = refl; kinds = sum; file = tt; kept = refl },
             (
-              record { a = omega arith; b = tt; c = tt; d = tt; used = refl; kinds = to_nominal; kept = refl },
+              record { a = omega arith; b = tt; c = tt; d = tt; used = refl; kinds = to_nominal; file = tt; kept = refl },
               (
-                record { a = omega arith; b = tt; c = tt; d = tt; used = refl; kinds = copy; kept = refl },
+                record { a = omega arith; b = tt; c = tt; d = tt; used = refl; kinds = copy; file = tt; kept = refl },
                 (
-                  record { a = omega arith; b = tt; c = tt; d = tt; used = refl; kinds = negative; kept = refl },
+                  record { a = omega arith; b = tt; c = tt; d = tt; used = refl; kinds = negative; file = tt; kept = refl },
                   tt,
                 ),
               ),
@@ -159,17 +160,32 @@ outputs_are (suc (suc (suc zero))) d below = record { value = (6, refl, omega ar
 outputs_are (suc (suc (suc (suc zero)))) d below = record { value = (7, refl, omega arith); kind = refl; file = refl; statement = omega arith }
 outputs_are (suc (suc (suc (suc (suc k))))) d below = absurd (omega arith)
 
+-- a grid may be of any kind
+grid_suits : (kind : Kind) (role : Role) → is_grid_role role ≡ true → SuitsRole kind role
+grid_suits kind Grid is = tt
+grid_suits kind Stack is = absurd (cc)
+grid_suits kind (Table keys) is = absurd (cc)
+grid_suits kind Series is = absurd (cc)
+
+-- the whole
 pub chain_formed : IsWellFormed chain_program
 chain_formed = record {
   files = all_from (λ (i : InputUse). is_file_word i.file) (λ (i : InputUse). IsTrue (is_file_word i.file)) (λ i passes. passes) chain_inputs refl;
+  roles = all_from (λ (i : InputUse). is_grid_role i.role) (λ (i : InputUse). SuitsRole i.kind i.role) (λ i. grid_suits i.kind i.role) chain_inputs refl;
   area = input_is 0 (omega arith);
   operations = operations_are;
+  step_operations = tt;
   order = pairs_from stands_before StandsBefore before_from chain_operations refl;
+  step_order = λ i j d less below. absurd (omega arith);
   outputs = outputs_are;
   reports = pairs_from (λ (x y : OutputUse). nat_lt x.statement y.statement) (λ (x y : OutputUse). x.statement < y.statement) (λ x y passes. ltb-true x.statement y.statement passes) chain_outputs refl;
   few_inputs = omega arith;
   few_operations = omega arith;
+  few_step_operations = omega arith;
   few_statements = all_from (λ (o : Operation). nat_le o.statement 1000) (λ (o : Operation). o.statement ≤ 1000) (λ o passes. leb-true o.statement 1000 passes) chain_operations refl;
+  few_step_statements = λ k d below. absurd (omega arith);
   few_outputs = omega arith;
+  few_stacks = omega arith;
+  few_stack_outputs = omega arith;
   few_steps = omega arith;
 }

@@ -256,17 +256,31 @@ static CONVERSIONS: [(Kind, Kind, Cell, Want); 56] = [
 ];
 
 // The work of a plain operation.
-fn plain(op: Op) -> Option<CellWork>
+fn plain(op: Op) -> Option<CellWork<'static>>
     ensures { IfSome result IsWork }
 {
     match op {
-        Op::ToBoolean | Op::ToNominal | Op::ToOrdinal | Op::ToScalar | Op::ToDirectional => None,
+        Op::ToBoolean
+        | Op::ToNominal
+        | Op::ToOrdinal
+        | Op::ToScalar
+        | Op::ToDirectional
+        | Op::LookupBoolean
+        | Op::LookupNominal
+        | Op::LookupOrdinal
+        | Op::LookupScalar
+        | Op::LookupDirectional
+        | Op::TimeInputBoolean
+        | Op::TimeInputNominal
+        | Op::TimeInputOrdinal
+        | Op::TimeInputScalar
+        | Op::TimeInputDirectional => None,
         _ => Some(CellWork::Plain(op)),
     }
 }
 
 // The work of a conversion, where there is one.
-fn conversion(from: Kind, to: Kind) -> Option<CellWork>
+fn conversion(from: Kind, to: Kind) -> Option<CellWork<'static>>
     ensures { IfSome result IsWork }
 {
     match (from, to) {
@@ -281,7 +295,7 @@ fn conversion(from: Kind, to: Kind) -> Option<CellWork>
 // What a work gives at one place.
 fn at_one_place(
     alloc: Global,
-    work: CellWork,
+    work: CellWork<'_>,
     a: Cell,
     b: Cell,
     c: Cell,
@@ -314,7 +328,7 @@ fn check(
     rt: &impl Abort,
     alloc: Global,
     row: usize,
-    work: Option<CellWork>,
+    work: Option<CellWork<'_>>,
     operands: (Cell, Cell, Cell),
     want: Want,
 ) -> Result<(), Fail>

@@ -1,25 +1,21 @@
 use Rattle.std.proofs.Common.{◌≡◌, ℕ, zero, suc, ◌+◌, ◌-◌, ◌*◌, ◌<◌, ◌≤◌, List, [], ◌∷◌, ◌++◌, length, take, refl, sym, ap, subst, ◌∙◌, Ok, Err, Result, arith}
-use Rattle.std.specs.Prelude.{All, Some, None, Option, slice_get, slice_range, slice_index_or}
+use Rattle.std.specs.Prelude.{All, Some, slice_get, slice_range}
 use Rattle.std.proofs.lemmas.List.Elements.{All-append, All-nil}
 use Rattle.std.proofs.lemmas.Option.{slice_get_within}
 use Rattle.std.proofs.Math.Seq.{take-length}
-use Rattle.tile_map.specs.Parts.{tabulate}
 use Rattle.map_meaning.specs.declared.known.Known.{Known}
 use Rattle.map_meaning.specs.declared.known.OverAt.{OverAt}
 use Rattle.map_meaning.specs.declared.known.Span.{Span}
 use Rattle.map_meaning.specs.declared.known.Span.TheVariants as span
-use Rattle.map_meaning.specs.declared.known.StageEnd.{StageEnd}
-use Rattle.map_meaning.specs.declared.known.StepMap.{StepMap}
-use Rattle.map_meaning.specs.declared.program.InputUse.{InputUse}
 use Rattle.map_meaning.specs.declared.program.Operation.{Operation}
 use Rattle.map_meaning.specs.declared.program.Program.{Program}
 use Rattle.map_meaning.specs.Evaluation.{Done, nothing_done, operation_part, operation_values}
 use Rattle.map_meaning.specs.Laws.{IsWholeMap, operations_at}
-use Rattle.map_meaning.specs.Maps.{IsMapOf, WholeMap, nth}
+use Rattle.map_meaning.specs.Maps.{IsMapOf, WholeMap}
 use Rattle.map_meaning.specs.Programs.{IsBelow, IsOperation, IsStepOperation, IsWellFormed, is_kept}
-use Rattle.map_meaning.specs.Scenes.{Scene, place_count}
-use Rattle.map_meaning.specs.Spans.{AreSteps, HasStacks, KnowsBefore, Knows, done_before, done_next, kept_map, kept_maps, scene_of, span_operations, stage_of, told_of, told_steps, told_then}
-use Rattle.map_meaning.proofs.WholeMaps.{AreDone, AreFrom, AreHeld, HasInputs, HasStacksAt, IsDoneNow, IsReadNow, from_list, kept_whole, map_whole, none_done, one_more_done, operation_of, read_now, scene_inputs, sound_initial, sound_now, step_operation_of, values_hold}
+use Rattle.map_meaning.specs.Scenes.{Scene}
+use Rattle.map_meaning.specs.Spans.{AreSteps, Knows, done_before, done_next, kept_map, kept_maps, scene_of, stage_of, told_of, told_steps, told_then}
+use Rattle.map_meaning.proofs.WholeMaps.{AreDone, AreFrom, HasInputs, HasStacksAt, IsDoneNow, IsReadNow, from_list, kept_whole, map_whole, none_done, one_more_done, operation_of, read_now, scene_inputs, sound_initial, sound_now, step_operation_of, values_hold}
 use Rattle.map_meaning.proofs.Tabulated.{nth_tabulate}
 use Rattle.map_meaning.proofs.laws.spans_give_whole_maps.Goals as goal
 
