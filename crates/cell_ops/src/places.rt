@@ -63,8 +63,24 @@ pub fn one<R: CellRule>(alloc: Global, rule: &R, len: usize, a: Arg<'_>) -> Resu
 {
     match a {
         Arg::Unused => each_place(alloc, rule, len, &Nowhere, &Nowhere, &Nowhere, &Nowhere),
-        Arg::One(cell) => each_place(alloc, rule, len, &Everywhere(cell), &Nowhere, &Nowhere, &Nowhere),
-        Arg::Cells(cells) => each_place(alloc, rule, len, &Each(cells), &Nowhere, &Nowhere, &Nowhere),
+        Arg::One(cell) => each_place(
+            alloc,
+            rule,
+            len,
+            &Everywhere(cell),
+            &Nowhere,
+            &Nowhere,
+            &Nowhere,
+        ),
+        Arg::Cells(cells) => each_place(
+            alloc,
+            rule,
+            len,
+            &Each(cells),
+            &Nowhere,
+            &Nowhere,
+            &Nowhere,
+        ),
     }
 }
 

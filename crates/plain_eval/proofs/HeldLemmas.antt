@@ -1,8 +1,8 @@
 -- The maps that are held: those that are read later are there.
-use Rattle.std.proofs.Common.{◌≡◌, ℕ, zero, suc, ◌+◌, ◌*◌, ◌<◌, ◌≤◌, Bool, true, false, cond, ◌&&◌, nat_eq, nat_lt, List, [], ◌∷◌, ◌++◌, length, get_or, drop, map, refl, sym, ap, subst, ◌∙◌, inl, inr, arith}
-use Rattle.std.specs.Prelude.{None, Some, Option, All, option_map, slice_get, slice_index_or, ◌==◌}
+use Rattle.std.proofs.Common.{◌≡◌, ℕ, zero, suc, ◌+◌, ◌*◌, ◌<◌, ◌≤◌, true, false, cond, ◌&&◌, nat_eq, nat_lt, List, [], ◌∷◌, ◌++◌, length, get_or, drop, map, refl, sym, ap, subst, ◌∙◌, inl, inr, arith}
+use Rattle.std.specs.Prelude.{None, Some, Option, All, option_map, slice_get, ◌==◌}
 use Rattle.std.specs.List.{list_any}
-use Rattle.std.proofs.lemmas.Bool.{cases_eq, cases_order, eq-eqb, eqb-true, le-ltb, lt-ltb, ne_eqb, or_left, or_right}
+use Rattle.std.proofs.lemmas.Bool.{cases_eq, cases_order, eq-eqb, le-ltb, lt-ltb, ne_eqb, or_left, or_right}
 use Rattle.std.proofs.lemmas.List.{drop_more, get_or_append_left, get_or_past, get_or_push, length-map, length_push}
 use Rattle.std.proofs.lemmas.Option.{slice_get_within}
 use Rattle.cell_values.specs.declared.kind.Kind.{Kind}
@@ -19,21 +19,19 @@ use Rattle.map_meaning.specs.declared.program.Operation.{Operation}
 use Rattle.map_meaning.specs.declared.program.Program.{Program}
 use Rattle.map_meaning.specs.declared.program.Role.{Role}
 use Rattle.map_meaning.specs.declared.program.Role.TheVariants.{Grid, Stack, Table, Series}
-use Rattle.map_meaning.specs.Evaluation.{Done, section_maps, with_map}
+use Rattle.map_meaning.specs.Evaluation.{section_maps, with_map}
 use Rattle.map_meaning.specs.Limits.{most_inputs}
 use Rattle.map_meaning.specs.Maps.{IsMapOf, WholeMap, nth}
-use Rattle.map_meaning.specs.Programs.{AreOneName, IsBelow, IsBelowNow, IsFileOf, IsInput, IsOperation, IsOperationOf, IsStepOperation, IsWellFormed}
-use Rattle.map_meaning.specs.Programs.{file_role, is_carried, is_grid_role, is_initial, is_last, is_read_in_steps, is_series_role, is_stack_role, is_table_role, is_unused, kinds_of, operand_kind, operands_of}
+use Rattle.map_meaning.specs.Programs.{IsBelow, IsFileOf, IsInput, IsOperation, IsOperationOf, IsStepOperation, IsWellFormed}
+use Rattle.map_meaning.specs.Programs.{file_role, is_grid_role, is_initial, is_last, is_read_in_steps, is_series_role, is_table_role, kinds_of}
 use Rattle.map_meaning.specs.Rules.{no_series, no_table}
-use Rattle.map_meaning.specs.Scenes.{map_at_step}
 use Rattle.map_meaning.specs.Spans.{AreAscending, HasSeriesKind, IsSpan, IsTableOf, KnowsBefore, Knows, kept_map}
 use Rattle.map_meaning.proofs.WholeMaps.{IsReadNow, input_item, input_there, operation_of, read_now, step_operation_of, there}
 use Rattle.plain_eval.specs.inside.Finished.{LetsGo}
-use Rattle.plain_eval.specs.inside.Held.{AreThere, HasFile, HasGrid, HasHeld, HasItsKind, HasKept, HasLast, HasSeries, HasTable, IsHeld, IsOneOf, IsThere, IsThereAtStep, IsThereInitially, done_of, held_at, or_empty}
-use Rattle.plain_eval.specs.inside.Inputs.{many_before}
+use Rattle.plain_eval.specs.inside.Held.{AreThere, HasFile, HasGrid, HasItsKind, HasKept, HasSeries, HasTable, IsHeld, IsOneOf, IsThereAtStep, IsThereInitially, done_of, held_at, or_empty}
 use Rattle.plain_eval.specs.inside.Readers.{AreLastReaders, NamesBelow, ReadsBelow, reads}
 use Rattle.plain_eval.specs.inside.Sections.{is_own, own_operations}
-use Rattle.plain_eval.proofs.InputLemmas.{StandsAt, at_place}
+use Rattle.plain_eval.proofs.InputLemmas.{at_place}
 use Rattle.plain_eval.proofs.ReaderLemmas.{read_later}
 use Rattle.plain_eval.proofs.Stages.{SameOutside, SameRead, own_map}
 

@@ -1,7 +1,7 @@
 -- Inputs of a role by their places, and maps by their numbers.
 use Rattle.std.proofs.Common.{◌≡◌, ℕ, zero, suc, ◌+◌, ◌<◌, ◌≤◌, Bool, true, false, cond, nat_lt, ◌&&◌, List, [], ◌∷◌, length, drop, get_or, refl, sym, ap, subst, ◌∙◌, inl, inr, ◌⊎◌, arith}
-use Rattle.std.specs.Prelude.{Some, None, Option, slice_get, slice_index_or, ◌==◌}
-use Rattle.std.specs.List.{AllPairs, AllZip, filter}
+use Rattle.std.specs.Prelude.{Some, slice_get, slice_index_or, ◌==◌}
+use Rattle.std.specs.List.{AllZip, filter}
 use Rattle.std.specs.List.Sorted.{IsPartitionedBy}
 use Rattle.std.proofs.Math.Nat.{eq-or-lt_of_le}
 use Rattle.std.proofs.lemmas.List.{drop_all, drop_more}

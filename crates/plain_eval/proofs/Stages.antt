@@ -1,13 +1,13 @@
 -- Operations one by one: what is told from some operations on.
-use Rattle.std.proofs.Common.{◌≡◌, ℕ, suc, ◌+◌, ◌-◌, ◌<◌, ◌≤◌, Bool, true, false, cond, List, [], ◌∷◌, ◌++◌, length, take, refl, sym, ap, subst, ◌∙◌, inl, inr, arith, append_assoc, append-nil}
-use Rattle.std.specs.Prelude.{Ok, Err, Result, None, Some, Option, slice_range, ◌==◌}
+use Rattle.std.proofs.Common.{◌≡◌, ℕ, ◌+◌, ◌-◌, ◌<◌, Bool, true, false, cond, List, [], ◌∷◌, ◌++◌, length, take, refl, sym, ap, subst, ◌∙◌, inl, inr, arith, append_assoc, append-nil}
+use Rattle.std.specs.Prelude.{Ok, Err, Result, None, Some, slice_range, ◌==◌}
 use Rattle.std.specs.List.{list_any}
 use Rattle.std.proofs.Math.Seq.{take-length}
 use Rattle.std.proofs.lemmas.Bool.{cases_lt, eq-eqb, or_left, or_right}
 use Rattle.std.proofs.lemmas.List.{get_or_append_left, get_or-append_right, get_or_push, length_push}
 use Rattle.text_base.specs.Results.{◌>>=◌}
 use Rattle.tile_map.specs.Cuts.{cell_at}
-use Rattle.tile_map.specs.Parts.{part_of, tabulate}
+use Rattle.tile_map.specs.Parts.{part_of}
 use Rattle.map_meaning.specs.declared.known.Known.{Known}
 use Rattle.map_meaning.specs.declared.known.OverAt.{OverAt}
 use Rattle.map_meaning.specs.declared.known.Span.{Span}
@@ -25,11 +25,11 @@ use Rattle.map_meaning.specs.Overs.{whole_or_over}
 use Rattle.map_meaning.specs.Programs.{kinds_of}
 use Rattle.map_meaning.specs.Rules.{outcome_of}
 use Rattle.map_meaning.specs.Scenes.{Scene, place_count, setting_at}
-use Rattle.map_meaning.specs.Spans.{IsSpan, done_next, kept_map, kept_maps, scene_of, stage_of, told_of, told_steps, told_then, whole_span}
+use Rattle.map_meaning.specs.Spans.{IsSpan, done_next, kept_maps, scene_of, stage_of, told_of, told_steps, told_then, whole_span}
 use Rattle.plain_eval.specs.inside.Finished.{with_kept}
 use Rattle.plain_eval.specs.inside.Held.{done_of}
 use Rattle.plain_eval.specs.inside.Readers.{reads}
-use Rattle.plain_eval.specs.inside.Sections.{is_own, own_operations, scene_in, step_of}
+use Rattle.plain_eval.specs.inside.Sections.{is_own, own_operations, scene_in}
 
 -- ---- the maps of the span's section
 

@@ -9,7 +9,7 @@ use Rattle.map_meaning.specs.declared.known.StageEnd.{StageEnd}
 use Rattle.map_meaning.specs.declared.known.StepMap.{StepMap}
 use Rattle.map_meaning.specs.declared.program.Operation.{Operation}
 use Rattle.map_meaning.specs.declared.program.Program.{Program}
-use Rattle.map_meaning.specs.Evaluation.{Done, operation_value, section_maps, with_map}
+use Rattle.map_meaning.specs.Evaluation.{Done, operation_value, with_map}
 use Rattle.map_meaning.specs.Maps.{WholeMap}
 use Rattle.map_meaning.specs.Scenes.{Scene, place_count}
 use Rattle.plain_eval.specs.inside.Sections.{own_operations, scene_in, step_of}

@@ -132,12 +132,7 @@ fn step_arg<'a>(
         Operand::Time => Arg::One(step_number(step)),
         Operand::Input(n) => grid(program, known, n),
         Operand::Stack(n) => Arg::Cells(stack_cells(known.stacks.as_slice(), step, n)),
-        Operand::Initial(n) => kept_arg(
-            known.initial.as_slice(),
-            n,
-            program.initial.len(),
-            places,
-        ),
+        Operand::Initial(n) => kept_arg(known.initial.as_slice(), n, program.initial.len(), places),
         Operand::Now(n) => held_arg(held, n, places),
         Operand::Last { dynamic, initial } => last_arg(program, known, step, dynamic, initial),
     }

@@ -1,6 +1,7 @@
 ghost use Rattle.std.specs.Prelude.{◌≡◌, ◌<◌, ◌≤◌, ◌*◌, ℕ, IfOk};
 ghost use Rattle.map_meaning.specs.Evaluation.{operation_part, operation_value};
 ghost use Rattle.map_meaning.specs.Overs.{over_at as five_numbers};
+ghost use Rattle.map_meaning.specs.declared.program.Program.{Program as TheProgram};
 ghost use Rattle.plain_eval.specs.inside.Held.{AreThere, IsOneOf, done_of};
 ghost use Rattle.plain_eval.specs.inside.Sections.{scene_in};
 ghost use Rattle.text_base.specs.Limits.{most_cells};
@@ -39,10 +40,10 @@ fn part(
 }
 
 // The five numbers of an Over at this place.
-fn over_at(_program: &Program, span: Span, known: &Known, operation: Operation, place: u32) -> OverAt
+fn over_at(span: Span, known: &Known, operation: Operation, place: u32) -> OverAt
     requires some { 0 < known.now.cols }
     requires few { place < most_cells }
-    ensures { result ≡ five_numbers (scene_in _program.now span known.now) operation.statement operation.number place }
+    ensures { (program : TheProgram) → result ≡ five_numbers (scene_in program span known.now) operation.statement operation.number place }
 {
     OverAt {
         step: step_of(span),
@@ -70,7 +71,7 @@ pub fn value(
 {
     let Part { cells, over } = part(alloc, program, operation, span, known, held)?;
     match over {
-        Some(place) => Ok(Err(over_at(program, span, known, operation, place))),
+        Some(place) => Ok(Err(over_at(span, known, operation, place))),
         None => Ok(Ok(Map::new(alloc, cells)?)),
     }
 }

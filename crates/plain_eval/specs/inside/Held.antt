@@ -1,5 +1,5 @@
 -- The maps that are held between operations: those that a later operation reads.
-use Rattle.std.specs.Prelude.{◌≡◌, ◌<◌, ◌≤◌, ℕ, ◌*◌, ◌==◌, List, [], ◌∷◌, length, map, Option, Some, None, slice_index_or, ⊤, true, false}
+use Rattle.std.specs.Prelude.{◌≡◌, ◌<◌, ◌≤◌, ℕ, ◌*◌, ◌==◌, List, [], length, map, Option, Some, None, slice_index_or, ⊤, true, false}
 use Rattle.cell_ops.specs.declared.work.CellWork.{CellWork}
 use Rattle.cell_ops.specs.declared.work.CellWork.TheVariants.{Lookup}
 use Rattle.tile_map.specs.Parts.{tabulate}

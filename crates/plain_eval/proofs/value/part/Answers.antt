@@ -1,5 +1,4 @@
 -- The operands are those of the definition, and so is the work.
-use Rattle.std.proofs.Common.{sym}
 use Rattle.map_meaning.specs.Programs.{kinds_of}
 use Rattle.map_meaning.specs.Scenes.{setting_at}
 use Rattle.plain_eval.specs.inside.Held.{done_of}
