@@ -11,7 +11,8 @@ use Rattle.map_meaning.specs.declared.known.OverAt.{OverAt}
 use Rattle.map_meaning.specs.declared.op.Op.{Op}
 use Rattle.map_meaning.specs.declared.program.InputUse.{InputUse}
 use Rattle.map_meaning.specs.declared.program.Operand.{Operand}
-use Rattle.map_meaning.specs.declared.program.Operand.TheVariants.{Unused, Literal, Input, Initial}
+use Rattle.map_meaning.specs.declared.program.Operand.TheVariants.{Unused, Literal, Time, Input, Initial, Now, Last}
+use Rattle.map_meaning.specs.declared.program.Operand.TheVariants as from
 use Rattle.map_meaning.specs.declared.program.Operation.{Operation}
 use Rattle.map_meaning.specs.declared.program.Program.{Program}
 use Rattle.map_meaning.specs.declared.tree.Tree.{Tree}
@@ -23,7 +24,7 @@ use Rattle.map_meaning.specs.Scenes.{Scene}
 use Rattle.map_meaning.specs.Spans.{whole_span}
 use Rattle.map_meaning.specs.Trees.{Environment, Site, TreeMeaning, applied, meaning_of, operations_in, values_from_left}
 use Rattle.map_meaning.proofs.Callers.{meaning_of-Call, meaning_of-Input, meaning_of-Name, meaning_of-Number, operation_values-append}
-use Rattle.script_types.specs.inside.Values.{AllBefore, Computes, ComputesAll, Extends, HasOperands, HoldsMap, NamesBefore, operand_map}
+use Rattle.script_types.specs.inside.Values.{initially, AllBefore, Computes, ComputesAll, Extends, HasOperands, HoldsMap, NamesBefore, operand_map}
 use Rattle.script_types.specs.inside.Fits.{Ground, NamesHeld}
 use Rattle.script_types.proofs.ValueLemmas.{applied-is, four, kinds-four, operand-stays, values-add, values-push}
 
@@ -45,8 +46,12 @@ in-push (x ∷ ms) m = let e = in-push ms m in omega (arith, e)
 before-more : (n k : ℕ) (x : Operand) → n ≤ k → NamesBefore n x → NamesBefore k x
 before-more n k Unused h b = tt
 before-more n k (Literal kind cell) h b = tt
+before-more n k Time h b = tt
 before-more n k (Input i) h b = tt
+before-more n k (from.Stack i) h b = tt
 before-more n k (Initial i) h b = omega arith
+before-more n k (Now i) h b = tt
+before-more n k (Last d i) h b = omega arith
 
 all-before-push : (n k : ℕ) (xs : List Operand) (x : Operand) → n ≤ k → AllBefore n xs → NamesBefore k x → AllBefore k (xs ++ x ∷ [])
 all-before-push n k [] x h a b = (b, tt)
@@ -116,21 +121,21 @@ computes-none inputs holder old statement first = record {
 }
 
 -- two runs of operations, of which the second begins where the first ends
-both-runs : (program : Program) (scene : Scene) (maps : List WholeMap) (ps qs : List Operation) (xs : List Operand) (x : Operand) (r : Result Done OverAt) (vs : Result (List WholeMap) OverAt) (m : Result WholeMap OverAt) → operation_values program scene (whole_span program) (record { initial = maps }) ps ≡ r → AllBefore (length maps + length ps) xs → vs ≡ r >>= (λ d. Ok (map (operand_map scene d.initial) xs)) → ((d : Done) → r ≡ Ok d → m ≡ operation_values program scene (whole_span program) d qs >>= λ e. Ok (operand_map scene e.initial x)) → vs >>= (λ ws. m >>= λ w. Ok (ws ++ w ∷ [])) ≡ (r >>= λ d. operation_values program scene (whole_span program) d qs) >>= λ e. Ok (map (operand_map scene e.initial) (xs ++ x ∷ []))
+both-runs : (program : Program) (scene : Scene) (maps : List WholeMap) (ps qs : List Operation) (xs : List Operand) (x : Operand) (r : Result Done OverAt) (vs : Result (List WholeMap) OverAt) (m : Result WholeMap OverAt) → operation_values program scene (whole_span program) (initially maps) ps ≡ r → AllBefore (length maps + length ps) xs → vs ≡ r >>= (λ d. Ok (map (operand_map scene d.initial) xs)) → ((d : Done) → r ≡ Ok d → m ≡ operation_values program scene (whole_span program) d qs >>= λ e. Ok (operand_map scene e.initial x)) → vs >>= (λ ws. m >>= λ w. Ok (ws ++ w ∷ [])) ≡ (r >>= λ d. operation_values program scene (whole_span program) d qs) >>= λ e. Ok (map (operand_map scene e.initial) (xs ++ x ∷ []))
 both-runs program scene maps ps qs xs x (Err f) vs m hr hb hv hm = ap (λ v. v >>= (λ ws. m >>= λ w. Ok (ws ++ w ∷ []))) hv
 both-runs program scene maps ps qs xs x (Ok d) vs m hr hb hv hm =
     let a = values-add program scene ps maps d hr in
     let n : length d.initial ≡ length maps + length ps = ap length a.appended ∙ length-append maps a.added ∙ ap (λ k. length maps + k) a.count in
-    ap (λ v. v >>= (λ ws. m >>= λ w. Ok (ws ++ w ∷ []))) hv ∙ ap (λ v. v >>= λ w. Ok (map (operand_map scene d.initial) xs ++ w ∷ [])) (hm d refl) ∙ second d (operation_values program scene (whole_span program) d qs) refl (subst (λ k. AllBefore k xs) (sym n) hb)
+    ap (λ v. v >>= (λ ws. m >>= λ w. Ok (ws ++ w ∷ []))) hv ∙ ap (λ v. v >>= λ w. Ok (map (operand_map scene d.initial) xs ++ w ∷ [])) (hm d refl) ∙ second d a.alone (operation_values program scene (whole_span program) d qs) refl (subst (λ k. AllBefore k xs) (sym n) hb)
   where
     stays : (ms added : List WholeMap) (ys : List Operand) → AllBefore (length ms) ys → map (operand_map scene (ms ++ added)) ys ≡ map (operand_map scene ms) ys
     stays ms added [] b = refl
     stays ms added (y ∷ ys) b = ap (λ v. v ∷ map (operand_map scene (ms ++ added)) ys) (operand-stays scene ms added y b.0) ∙ ap (λ vs. operand_map scene ms y ∷ vs) (stays ms added ys b.1)
 
-    second : (d : Done) (q : Result Done OverAt) → operation_values program scene (whole_span program) d qs ≡ q → AllBefore (length d.initial) xs → ((q >>= λ e. Ok (operand_map scene e.initial x)) >>= λ w. Ok (map (operand_map scene d.initial) xs ++ w ∷ [])) ≡ (q >>= λ e. Ok (map (operand_map scene e.initial) (xs ++ x ∷ [])))
-    second d (Err f) hq b = refl
-    second d (Ok e) hq b =
-        let a = values-add program scene qs d.initial e hq in
+    second : (d : Done) → d ≡ initially d.initial → (q : Result Done OverAt) → operation_values program scene (whole_span program) d qs ≡ q → AllBefore (length d.initial) xs → ((q >>= λ e. Ok (operand_map scene e.initial x)) >>= λ w. Ok (map (operand_map scene d.initial) xs ++ w ∷ [])) ≡ (q >>= λ e. Ok (map (operand_map scene e.initial) (xs ++ x ∷ [])))
+    second d alone (Err f) hq b = refl
+    second d alone (Ok e) hq b =
+        let a = values-add program scene qs d.initial e (ap (λ s. operation_values program scene (whole_span program) s qs) (sym alone) ∙ hq) in
         ap (λ vs. Ok (vs ++ operand_map scene e.initial x ∷ [])) (sym (ap (λ ms. map (operand_map scene ms) xs) a.appended ∙ stays d.initial a.added xs b)) ∙ ap Ok (sym (map-append (operand_map scene e.initial) xs (x ∷ [])))
 
 -- one more operand
@@ -153,21 +158,22 @@ computes-push inputs holder old mid new statement first ts xs t x hf a c =
           let b = length old - first in
           let at-mid : length mid - first ≡ b + operations_in (map meaning_of ts) = omega (arith, lm, la, hf) in
           let less = extends-less program inputs mid new c.added c.appended e in
-          ap (λ xs. values_from_left xs site b) ms ∙ values-push (map meaning_of ts) (meaning_of t) site b ∙ both-runs program scene maps a.added c.added xs x (operation_values program scene (whole_span program) (record { initial = maps }) a.added) (values_from_left (map meaning_of ts) site b) ((meaning_of t).value site (b + operations_in (map meaning_of ts))) refl (subst (λ k. AllBefore k xs) (lm ∙ ap (λ k. k + length a.added) (sym n)) a.before) (a.values program scene names maps less n h) (λ d is.
+          ap (λ xs. values_from_left xs site b) ms ∙ values-push (map meaning_of ts) (meaning_of t) site b ∙ both-runs program scene maps a.added c.added xs x (operation_values program scene (whole_span program) (initially maps) a.added) (values_from_left (map meaning_of ts) site b) ((meaning_of t).value site (b + operations_in (map meaning_of ts))) refl (subst (λ k. AllBefore k xs) (lm ∙ ap (λ k. k + length a.added) (sym n)) a.before) (a.values program scene names maps less n h) (λ d is.
           let w = values-add program scene a.added maps d is in
-          ap ((meaning_of t).value site) (sym at-mid) ∙ c.value program scene names d.initial e (ap length w.appended ∙ length-append maps w.added ∙ ap (λ k. length maps + k) w.count ∙ ap (λ k. k + length a.added) n ∙ sym lm) (holds-more holder names maps w.added d.initial w.appended h))
-          ∙ ap (λ r. r >>= λ after. Ok (map (operand_map scene after.initial) (xs ++ x ∷ []))) (sym (operation_values-append program scene (whole_span program) (record { initial = maps }) a.added c.added));
+          ap ((meaning_of t).value site) (sym at-mid) ∙ c.value program scene names d.initial e (ap length w.appended ∙ length-append maps w.added ∙ ap (λ k. length maps + k) w.count ∙ ap (λ k. k + length a.added) n ∙ sym lm) (holds-more holder names maps w.added d.initial w.appended h)
+          ∙ ap (λ s. operation_values program scene (whole_span program) s c.added >>= λ after. Ok (operand_map scene after.initial x)) (sym w.alone))
+          ∙ ap (λ r. r >>= λ after. Ok (map (operand_map scene after.initial) (xs ++ x ∷ []))) (sym (operation_values-append program scene (whole_span program) (initially maps) a.added c.added));
     }
 
 -- ---- a call
 
 -- the operation behind those of its operands
-last-run : (program : Program) (scene : Scene) (maps : List WholeMap) (ps : List Operation) (o : Operation) (n : ℕ) (r : Result Done OverAt) (vs : Result (List WholeMap) OverAt) (xs : List Operand) (own : List WholeMap → Result WholeMap OverAt) → operation_values program scene (whole_span program) (record { initial = maps }) ps ≡ r → length maps + length ps ≡ n → vs ≡ r >>= (λ d. Ok (map (operand_map scene d.initial) xs)) → ((d : Done) → own (map (operand_map scene d.initial) xs) ≡ operation_value program scene d o) → vs >>= own ≡ (r >>= λ d. operation_values program scene (whole_span program) d (o ∷ [])) >>= λ e. Ok (operand_map scene e.initial (Initial n))
+last-run : (program : Program) (scene : Scene) (maps : List WholeMap) (ps : List Operation) (o : Operation) (n : ℕ) (r : Result Done OverAt) (vs : Result (List WholeMap) OverAt) (xs : List Operand) (own : List WholeMap → Result WholeMap OverAt) → operation_values program scene (whole_span program) (initially maps) ps ≡ r → length maps + length ps ≡ n → vs ≡ r >>= (λ d. Ok (map (operand_map scene d.initial) xs)) → ((d : Done) → r ≡ Ok d → own (map (operand_map scene d.initial) xs) ≡ operation_value program scene d o) → vs >>= own ≡ (r >>= λ d. operation_values program scene (whole_span program) d (o ∷ [])) >>= λ e. Ok (operand_map scene e.initial (Initial n))
 last-run program scene maps ps o n (Err f) vs xs own hr hn hv ho = ap (λ v. v >>= own) hv
 last-run program scene maps ps o n (Ok d) vs xs own hr hn hv ho =
     let a = values-add program scene ps maps d hr in
     let k : length d.initial ≡ n = ap length a.appended ∙ length-append maps a.added ∙ ap (λ j. length maps + j) a.count ∙ hn in
-    ap (λ v. v >>= own) hv ∙ ho d ∙ told (operation_value program scene d o) k
+    ap (λ v. v >>= own) hv ∙ ho d refl ∙ told (operation_value program scene d o) k
   where
     told : (v : Result WholeMap OverAt) → length d.initial ≡ n → v ≡ (v >>= λ m. Ok (with_map (whole_span program) d m)) >>= λ e. Ok (nth e.initial n)
     told (Err f) k = refl
@@ -202,8 +208,8 @@ computes-call inputs holder old mid first k op args xs o hf h4 ho hk hn has a =
           let number : b + operations_in (map meaning_of args) + 1 ≡ o.number = (let z : b + operations_in (map meaning_of args) + 1 ≡ length mid - first + 1 = omega (arith, lm, la, hf) in z ∙ sym hn) in
           let same : kinds_of program o ≡ kinds = kinds-are program o xs kinds has (a.kinds program less) (omega (arith, lx, h4)) in
           ap (λ (m : TreeMeaning). m.value site b) (meaning_of-Call k op args)
-          ∙ last-run program scene maps a.added o (length mid) (operation_values program scene (whole_span program) (record { initial = maps }) a.added) (values_from_left (map meaning_of args) site b) xs (λ vs. applied site op kinds vs (b + operations_in (map meaning_of args) + 1)) refl (ap (λ j. j + length a.added) n ∙ sym lm) (a.values program scene names maps less n h) (λ d. ap (λ j. applied site op kinds (map (operand_map scene d.initial) xs) j) number ∙ ap (λ q. applied site q kinds (map (operand_map scene d.initial) xs) o.number) (sym ho) ∙ applied-is program scene names d.initial o kinds xs has same)
-          ∙ ap (λ r. r >>= λ after. Ok (operand_map scene after.initial (Initial (length mid)))) (sym (operation_values-append program scene (whole_span program) (record { initial = maps }) a.added (o ∷ [])));
+          ∙ last-run program scene maps a.added o (length mid) (operation_values program scene (whole_span program) (initially maps) a.added) (values_from_left (map meaning_of args) site b) xs (λ vs. applied site op kinds vs (b + operations_in (map meaning_of args) + 1)) refl (ap (λ j. j + length a.added) n ∙ sym lm) (a.values program scene names maps less n h) (λ d is. ap (λ j. applied site op kinds (map (operand_map scene d.initial) xs) j) number ∙ ap (λ q. applied site q kinds (map (operand_map scene d.initial) xs) o.number) (sym ho) ∙ applied-is program scene names d.initial o kinds xs has same ∙ ap (λ s. operation_value program scene s o) (sym (values-add program scene a.added maps d is).alone))
+          ∙ ap (λ r. r >>= λ after. Ok (operand_map scene after.initial (Initial (length mid)))) (sym (operation_values-append program scene (whole_span program) (initially maps) a.added (o ∷ [])));
     }
 
 -- ---- what is known of names

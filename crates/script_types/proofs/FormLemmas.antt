@@ -9,14 +9,15 @@ use Rattle.cell_values.specs.Kinds.{IsValue, greatest, is_value, least}
 use Rattle.map_meaning.specs.declared.op.Op.{Op}
 use Rattle.map_meaning.specs.declared.program.InputUse.{InputUse}
 use Rattle.map_meaning.specs.declared.program.Operand.{Operand}
-use Rattle.map_meaning.specs.declared.program.Operand.TheVariants.{Unused, Literal, Input, Initial}
+use Rattle.map_meaning.specs.declared.program.Operand.TheVariants.{Unused, Literal, Time, Input, Initial, Now, Last}
+use Rattle.map_meaning.specs.declared.program.Operand.TheVariants as from
 use Rattle.map_meaning.specs.declared.program.Operation.{Operation}
 use Rattle.map_meaning.specs.declared.program.Program.{Program}
 use Rattle.map_meaning.specs.declared.program.Role.TheVariants.{Grid}
 use Rattle.map_meaning.specs.declared.tree.Tree.{Tree}
 use Rattle.map_meaning.specs.declared.tree.Tree.TheVariants as tree
-use Rattle.map_meaning.specs.Programs.{IsBelow, are_used_first, is_unused, kinds_of, operand_kind, operands_of}
-use Rattle.map_meaning.specs.Table.{HasKinds, row_of}
+use Rattle.map_meaning.specs.Programs.{IsBelow, IsFileOf, are_used_first, file_role, is_unused, kinds_of, operand_kind, operands_of}
+use Rattle.map_meaning.specs.Table.{HasKinds, map_row, row_of}
 use Rattle.map_meaning.specs.Trees.{TreeMeaning, meaning_of}
 use Rattle.script_types.specs.declared.typed.Line.{Line}
 use Rattle.script_types.specs.Statements.{operations_of}
@@ -27,6 +28,7 @@ use Rattle.script_types.proofs.CountLemmas.{meaning-call}
 use Rattle.script_types.proofs.EmitValues.{extends-less, kinds-are}
 use Rattle.script_types.proofs.FitLemmas.{both-left, both-right}
 use Rattle.script_types.proofs.SoundLemmas.{kind-of, kinds-of-row}
+use Rattle.script_types.proofs.MapRows.{map-row-is, no-file}
 use Rattle.script_types.proofs.ValueLemmas.{four}
 
 -- ---- operands
@@ -35,8 +37,12 @@ use Rattle.script_types.proofs.ValueLemmas.{four}
 below-more : (program : Program) (n k : ℕ) (x : Operand) → n ≤ k → IsBelow program n x → IsBelow program k x
 below-more program n k Unused h b = tt
 below-more program n k (Literal kind cell) h b = b
+below-more program n k Time h b = b
 below-more program n k (Input i) h b = b
+below-more program n k (from.Stack i) h b = b
 below-more program n k (Initial i) h b = omega (arith, h, b)
+below-more program n k (Now i) h b = b
+below-more program n k (Last d i) h b = b
 
 given-more : (program : Program) (n k : ℕ) (xs : List Operand) → n ≤ k → AreGiven program n xs → AreGiven program k xs
 given-more program n k [] h a = tt
@@ -55,8 +61,12 @@ below-at program n (x ∷ xs) (suc i) a = below-at program n xs i a.1
 used-step : (x : Operand) (more : List Operand) → is_unused x ≡ false → are_used_first (x ∷ more) ≡ are_used_first more
 used-step Unused more h = cc
 used-step (Literal kind cell) more h = refl
+used-step Time more h = refl
 used-step (Input i) more h = refl
+used-step (from.Stack i) more h = refl
 used-step (Initial i) more h = refl
+used-step (Now i) more h = refl
+used-step (Last d i) more h = refl
 
 -- behind those that are used none is
 used-four : (program : Program) (n : ℕ) (xs : List Operand) → AreGiven program n xs → length xs ≤ 4 → are_used_first (four xs) ≡ true
@@ -166,7 +176,8 @@ forms-call inputs old mid kept k op args xs o h4 ho hk hkept has lx a kinds hr =
       c = subst (IsBelow program (length mid)) (sym has.c) (below-at program (length mid) xs 2 given);
       d = subst (IsBelow program (length mid)) (sym has.d) (below-at program (length mid) xs 3 given);
       used = ap are_used_first (in-four o xs has) ∙ used-four program (length mid) xs given few;
-      kinds = subst (λ p. HasKinds (row_of p) (kinds_of program o) o.kind) (sym ho) (subst (λ ks. HasKinds (row_of op) ks o.kind) (sym same) (subst (HasKinds (row_of op) (map kind-of args)) (sym hk) (kinds-of-row (row_of op) (map kind-of args) k hr)));
+      kinds = subst (λ p. HasKinds (map_row (row_of p)) (kinds_of program o) o.kind) (sym ho) (subst (λ ks. HasKinds (map_row (row_of op)) ks o.kind) (sym same) (subst (HasKinds (map_row (row_of op)) (map kind-of args)) (sym hk) (subst (λ r. HasKinds r (map kind-of args) k) (sym (map-row-is op (map kind-of args) k hr)) (kinds-of-row (row_of op) (map kind-of args) k hr))));
+          file = subst (λ f. IsFileOf program f o.kind o.file) (sym (ap (λ p. file_role p (length (kinds_of program o))) ho ∙ no-file op (length (kinds_of program o)) (map kind-of args) k hr)) tt;
     } in
     record {
       added = a.added ++ o ∷ [];

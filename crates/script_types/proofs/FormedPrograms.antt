@@ -1,6 +1,6 @@
 -- That the program of a script is well formed.
-use Rattle.std.proofs.Common.{◌≡◌, ◌<◌, ◌≤◌, ℕ, zero, suc, ◌+◌, ◌==◌, Bool, true, false, not, ◌&&◌, ◌||◌, List, [], ◌∷◌, ◌++◌, map, filter, length, refl, sym, ap, subst, ◌∙◌, if◌then◌else◌, arith, append-nil, length-append}
-use Rattle.std.specs.Prelude.{Option, None, Some, IfSome, Ok, IsTrue, nat_le, nat_lt, slice_get}
+use Rattle.std.proofs.Common.{◌≡◌, ◌<◌, ◌≤◌, ℕ, zero, suc, ◌+◌, ◌-◌, ◌==◌, Bool, true, false, not, ◌&&◌, ◌||◌, List, [], ◌∷◌, ◌++◌, map, filter, length, refl, sym, ap, subst, ◌∙◌, if◌then◌else◌, arith, append-nil, length-append}
+use Rattle.std.specs.Prelude.{All, AllPairs, Option, None, Some, IfSome, Ok, IsTrue, nat_le, nat_lt, slice_get}
 use Rattle.std.specs.Char.{is_ascii_digit}
 use Rattle.std.specs.Option.{is_some, unwrap_or}
 use Rattle.std.specs.List.{find, list_all}
@@ -20,17 +20,22 @@ use Rattle.script_syntax.specs.declared.tree.Script.{Script}
 use Rattle.script_syntax.specs.declared.tree.Target.{Target}
 use Rattle.script_syntax.specs.declared.tree.Target.TheVariants as target
 use Rattle.map_meaning.specs.declared.program.InputUse.{InputUse}
+use Rattle.map_meaning.specs.declared.program.Operand.TheVariants.{Initial}
+use Rattle.map_meaning.specs.declared.program.Operation.{Operation}
+use Rattle.map_meaning.specs.declared.program.OutputKind.TheVariants.{InitialGrid}
+use Rattle.map_meaning.specs.declared.program.OutputUse.{OutputUse}
 use Rattle.map_meaning.specs.declared.program.Program.{Program}
 use Rattle.map_meaning.specs.declared.program.Role.TheVariants.{Grid}
-use Rattle.map_meaning.specs.Programs.{IsInput, IsOutput, IsWellFormed, StandsBefore}
+use Rattle.map_meaning.specs.Programs.{AreStepOperations, IsInput, IsOutput, IsWellFormed, StandsBefore, SuitsRole, is_stack_grid, is_stack_role}
 use Rattle.script_types.specs.declared.typed.Line.{Line}
 use Rattle.script_types.specs.declared.typed.UsedAs.{UsedAs}
 use Rattle.script_types.specs.declared.typed.UsedAs.TheVariants as used
 use Rattle.script_types.specs.Answers.{IsProgramOf}
-use Rattle.script_types.specs.Lowered.{area_number, grid_input, input_of, inputs_of, total_operations}
+use Rattle.script_types.specs.Lowered.{area_number, grid_input, input_of, inputs_of, outputs_from, total_operations}
 use Rattle.script_types.specs.Meaning.{meaning}
 use Rattle.script_types.specs.Names.{binding_of, file_by, inputs_before, is_assigned, is_bound_to_number, is_input_by, is_number_target, is_used, place_from, target_file, used_inputs}
-use Rattle.script_types.specs.Reports.{area_files, file_written}
+use Rattle.script_types.specs.Reports.{Bound, area_files, file_written}
+use Rattle.script_types.specs.Statements.{operations_of}
 use Rattle.script_types.specs.Unbuilt.{is_unbuilt}
 use Rattle.script_types.specs.inside.FitLines.{LinesFit}
 use Rattle.script_types.specs.inside.Forms.{AreGrids, HaveForms}
@@ -225,6 +230,28 @@ all-have : (inputs : List InputUse) (above lines : List Line) → LinesFit input
 all-have inputs above [] h = tt
 all-have inputs above (l ∷ ls) h = (h.0.operation, all-have inputs (above ++ l ∷ []) ls h.1)
 
+-- grids have the roles that they may have
+grids-suit : (inputs : List InputUse) → AreGrids inputs → Each (λ i. SuitsRole i.kind i.role) inputs
+grids-suit [] hg = tt
+grids-suit (i ∷ inputs) hg = (subst (SuitsRole i.kind) (sym (hg 0 i refl)) tt, grids-suit inputs (λ n j e. hg (suc n) j e))
+
+-- none of them is a stack
+no-stacks : (inputs : List InputUse) → AreGrids inputs → length (filter (λ (i : InputUse). is_stack_role i.role) inputs) ≡ 0
+no-stacks [] hg = refl
+no-stacks (i ∷ inputs) hg =
+    let rest = filter (λ (i : InputUse). is_stack_role i.role) inputs in
+    ap (λ b. length (if b then i ∷ rest else rest)) (ap is_stack_role (hg 0 i refl)) ∙ no-stacks inputs (λ n j e. hg (suc n) j e)
+
+-- and no output is
+no-stack-outputs : (bound : Bound) (statement before : ℕ) (lines : List Line) → length (filter (λ (u : OutputUse). is_stack_grid u.kind) (outputs_from bound statement before lines)) ≡ 0
+no-stack-outputs bound statement before [] = refl
+no-stack-outputs bound statement before (l ∷ ls) = by-report l.report (outputs_from bound (statement + 1) (before + operations_of l.statement.value) ls) (no-stack-outputs bound (statement + 1) (before + operations_of l.statement.value) ls)
+  where
+    by-report : (b : Bool) (rest : List OutputUse) → length (filter (λ (u : OutputUse). is_stack_grid u.kind) rest) ≡ 0 →
+        length (filter (λ (u : OutputUse). is_stack_grid u.kind) ((if b then record { file = file_written bound l; kind = InitialGrid; value = Initial (before + operations_of l.statement.value - 1); cell_kind = l.kind; statement = statement } ∷ [] else []) ++ rest)) ≡ 0
+    by-report true rest h = h
+    by-report false rest h = h
+
 -- the program of a script that a text gives is well formed
 pub formed-program : (script : Script) (lines : List Line) (program : Program) → IsWellMade script → is_unbuilt script ≡ false → meaning script ≡ Ok lines → total_operations lines ≤ 8192 → IsProgramOf script lines program → HaveForms (inputs_of script) program.initial lines → IsWellFormed program
 formed-program script lines program hm hu h hn hp hf =
@@ -241,13 +268,20 @@ formed-program script lines program hm hu h hn hp hf =
     let outs = outputs-few (binding_of script) 1 0 lines in
     record {
       files = all-each (λ i. IsTrue (is_file_word i.file)) program.inputs (subst (Each (λ i. is_file_word i.file ≡ true)) (sym hp.inputs) (input-files script hm));
+      roles = all-each (λ i. SuitsRole i.kind i.role) program.inputs (subst (Each (λ i. SuitsRole i.kind i.role)) (sym hp.inputs) (grids-suit (inputs_of script) (inputs-grids script)));
       area = area-input script lines program has hp;
-      operations = operations-formed (binding_of script) lines program hp.outputs have hf.kept (hf.forms program (record { more = []; inputs_are = hp.inputs; initial_is = sym (append-nil program.initial) }));
+      operations = operations-formed (binding_of script) lines program hp.dynamic hp.outputs have hf.kept (hf.forms program (record { more = []; inputs_are = hp.inputs; initial_is = sym (append-nil program.initial) }));
+      step_operations = subst (AreStepOperations program 0) (sym hp.dynamic) tt;
+      step_order = subst (AllPairs StandsBefore) (sym hp.dynamic) (λ i j d less below. absurd (omega arith));
       order = all-pairs StandsBefore program.initial (operations-order program.initial lines hp.operations);
       outputs = all-each (IsOutput program) program.outputs (subst (Each (IsOutput program)) (sym hp.outputs) (outputs-formed program (binding_of script) 1 0 lines [] program.initial refl refl hf.kept have (written-files script lines hm.bindings named.names) (omega (arith, few))));
       reports = all-pairs (λ x y. x.statement < y.statement) program.outputs (subst (λ us. Pairs (λ x y. x.statement < y.statement) us) (sym hp.outputs) (outputs-order (binding_of script) 1 0 lines));
       few_inputs = (let e = ap length hp.inputs in let k = inputs-few script entries in omega (arith, e, k));
       few_operations = omega (arith, count, hn);
+      few_step_operations = (let e = ap length hp.dynamic in omega (arith, e));
+      few_step_statements = subst (All (λ (o : Operation). o.statement ≤ 1000)) (sym hp.dynamic) (λ k d below. absurd (omega arith));
+      few_stacks = (let e = ap (λ is. length (filter (λ (i : InputUse). is_stack_role i.role) is)) hp.inputs ∙ no-stacks (inputs_of script) (inputs-grids script) in omega (arith, e));
+      few_stack_outputs = (let e = ap (λ us. length (filter (λ (u : OutputUse). is_stack_grid u.kind) us)) hp.outputs ∙ no-stack-outputs (binding_of script) 1 0 lines in omega (arith, e));
       few_statements = all-each (λ o. o.statement ≤ 1000) program.initial (each-weaken (λ o. o.statement ≤ length lines) (λ o. o.statement ≤ 1000) program.initial (λ o k. (let z = k in omega (arith, z, few))) (operations-below program.initial lines hp.operations));
       few_outputs = (let e = ap length hp.outputs in omega (arith, e, outs, few));
       few_steps = (let e = hp.steps in omega (arith, e, steps));

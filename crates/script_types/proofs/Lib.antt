@@ -28,3 +28,4 @@ mod Steps
 mod TypedCalls
 mod UnbuiltLemmas
 mod ValueLemmas
+pub mod MapRows

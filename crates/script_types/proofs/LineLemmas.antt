@@ -13,7 +13,7 @@ use Rattle.map_meaning.specs.declared.program.Operand.TheVariants.{Initial}
 use Rattle.map_meaning.specs.declared.program.Operation.{Operation}
 use Rattle.map_meaning.specs.declared.program.OutputUse.{OutputUse}
 use Rattle.map_meaning.specs.declared.program.Program.{Program}
-use Rattle.map_meaning.specs.Evaluation.{Done, operation_values}
+use Rattle.map_meaning.specs.Evaluation.{nothing_done, Done, operation_values}
 use Rattle.map_meaning.specs.Maps.{WholeMap, nth}
 use Rattle.map_meaning.specs.Programs.{operand_kind}
 use Rattle.map_meaning.specs.Scenes.{Scene}
@@ -29,7 +29,7 @@ use Rattle.script_types.specs.Statements.{kind_above, operations_of}
 use Rattle.script_types.specs.Values.{HasValues, Written, no_names, reported, written}
 use Rattle.script_types.specs.inside.FitLines.{LineFits, ground_below}
 use Rattle.script_types.specs.inside.LineValues.{Agree, AreLastMaps, HaveValues}
-use Rattle.script_types.specs.inside.Values.{Computes, Extends, HoldsMap, operand_map}
+use Rattle.script_types.specs.inside.Values.{initially, Computes, Extends, HoldsMap, operand_map}
 use Rattle.script_types.proofs.EmitValues.{extends-less, holds-more, names-held-more}
 use Rattle.script_types.proofs.Steps.{above-push, total-push}
 use Rattle.script_types.proofs.ValueLemmas.{values-add}
@@ -91,7 +91,7 @@ have-none inputs holder none = record {
 -- the kind of an operation that is the last
 last-kind : (inputs : List InputUse) (new : List Operation) (x : Operand) (kind : Kind) → ((program : Program) → Extends program inputs new → operand_kind program x ≡ Some kind) → x ≡ Initial (length new - 1) → option_map (λ o. o.kind) (slice_get new (length new - 1)) ≡ Some kind
 last-kind inputs new x kind h is =
-    let program : Program = record { inputs = inputs; initial = new; outputs = []; area = 0; steps = 0 } in
+    let program : Program = record { inputs = inputs; initial = new; dynamic = []; outputs = []; area = 0; steps = 0 } in
     ap (operand_kind program) (sym is) ∙ h program (record { more = []; inputs_are = refl; initial_is = sym (append-nil new) })
 
 module _ (inputs : List InputUse) (holder later : List ℕ → Option ℕ) (old new : List Operation) (lines : List Line) (l : Line) (x : Operand) (fit : LineFits (ground_below inputs lines) l) (h : HaveValues inputs holder old lines) (c : Computes inputs holder old new (length lines + 1) (length old) l.statement.value x) (set : (name : List ℕ) → later name ≡ (if bytes_eq name l.statement.target then Some (length new - 1) else holder name)) where
@@ -112,10 +112,10 @@ module _ (inputs : List InputUse) (holder later : List ℕ → Option ℕ) (old 
       by-name name k false is = holds name k is
 
   -- what stands after a statement, and after its operations
-  agree-last : (program : Program) (scene : Scene) (w : After) (d : Done) → length d.initial ≡ length old → Agree holder lines (Ok w) (Ok d) → (v : Result WholeMap OverAt) (q : Result Done OverAt) → operation_values program scene (whole_span program) d c.added ≡ q → v ≡ q >>= (λ e. Ok (operand_map scene e.initial x)) → Agree later (lines ++ l ∷ []) (v >>= λ m. Ok (assigned w l.statement m)) q
-  agree-last program scene w d n a v (Err f) hq hv = subst (λ (r : Result WholeMap OverAt). Agree later (lines ++ l ∷ []) (r >>= λ m. Ok (assigned w l.statement m)) (Err f)) (sym hv) refl
-  agree-last program scene w d n a v (Ok e) hq hv =
-      let adds = values-add program scene c.added d.initial e hq in
+  agree-last : (program : Program) (scene : Scene) (w : After) (d : Done) → d ≡ initially d.initial → length d.initial ≡ length old → Agree holder lines (Ok w) (Ok d) → (v : Result WholeMap OverAt) (q : Result Done OverAt) → operation_values program scene (whole_span program) d c.added ≡ q → v ≡ q >>= (λ e. Ok (operand_map scene e.initial x)) → Agree later (lines ++ l ∷ []) (v >>= λ m. Ok (assigned w l.statement m)) q
+  agree-last program scene w d alone n a v (Err f) hq hv = subst (λ (r : Result WholeMap OverAt). Agree later (lines ++ l ∷ []) (r >>= λ m. Ok (assigned w l.statement m)) (Err f)) (sym hv) refl
+  agree-last program scene w d alone n a v (Ok e) hq hv =
+      let adds = values-add program scene c.added d.initial e (ap (λ s. operation_values program scene (whole_span program) s c.added) (sym alone) ∙ hq) in
       let g = grown in
       let some = fit.operation in
       let le : length e.initial ≡ length new = ap length adds.appended ∙ length-append d.initial adds.added ∙ ap (λ k. length d.initial + k) (adds.count ∙ c.count) ∙ ap (λ k. k + operations_of l.statement.value) n ∙ sym g in
@@ -126,7 +126,7 @@ module _ (inputs : List InputUse) (holder later : List ℕ → Option ℕ) (old 
       )
 
   -- a section and its operations agree below one more statement
-  agree-push : (program : Program) (scene : Scene) → Extends program inputs new → (a : Result After OverAt) (b : Result Done OverAt) → operation_values program scene (whole_span program) (record { initial = [] }) old ≡ b → Agree holder lines a b → Agree later (lines ++ l ∷ []) (a >>= λ w. after_statements scene (1 + length (statements_of lines)) w (l.statement ∷ [])) (b >>= λ d. operation_values program scene (whole_span program) d c.added)
+  agree-push : (program : Program) (scene : Scene) → Extends program inputs new → (a : Result After OverAt) (b : Result Done OverAt) → operation_values program scene (whole_span program) nothing_done old ≡ b → Agree holder lines a b → Agree later (lines ++ l ∷ []) (a >>= λ w. after_statements scene (1 + length (statements_of lines)) w (l.statement ∷ [])) (b >>= λ d. operation_values program scene (whole_span program) d c.added)
   agree-push program scene e (Ok w) (Err f) hb a = absurd a
   agree-push program scene e (Err f) (Ok d) hb a = absurd a
   agree-push program scene e (Err f) (Err g) hb a = a
@@ -136,7 +136,7 @@ module _ (inputs : List InputUse) (holder later : List ℕ → Option ℕ) (old 
       let number : 1 + length (statements_of lines) ≡ length lines + 1 = (let m = length-map lines (λ (l : Line). l.statement) in omega (arith, m)) in
       let zero-before : 0 ≡ length old - length old = omega arith in
       let site : ℕ → Site = λ k. record { scene = scene; names = w.names; statement = k } in
-      agree-last program scene w d n a ((meaning_of l.statement.value).value (site (1 + length (statements_of lines))) 0) (operation_values program scene (whole_span program) d c.added) refl (ap (λ k. (meaning_of l.statement.value).value (site k) 0) number ∙ ap (λ k. (meaning_of l.statement.value).value (site (length lines + 1)) k) zero-before ∙ c.value program scene w.names d.initial e n a.0)
+      agree-last program scene w d adds.alone n a ((meaning_of l.statement.value).value (site (1 + length (statements_of lines))) 0) (operation_values program scene (whole_span program) d c.added) refl (ap (λ k. (meaning_of l.statement.value).value (site k) 0) number ∙ ap (λ k. (meaning_of l.statement.value).value (site (length lines + 1)) k) zero-before ∙ c.value program scene w.names d.initial e n a.0 ∙ ap (λ s. operation_values program scene (whole_span program) s c.added >>= λ after. Ok (operand_map scene after.initial x)) (sym adds.alone))
 
   -- the operations with those of one more statement
   pub have-push : HaveValues inputs later new (lines ++ l ∷ [])
@@ -145,7 +145,7 @@ module _ (inputs : List InputUse) (holder later : List ℕ → Option ℕ) (old 
     held = λ name kind is. held-push name kind (bytes_eq name l.statement.target) (sym (above-push lines l name) ∙ is) (set name);
     agree = λ program scene e.
         let start : After = record { names = no_names; maps = [] } in
-        let begun : Done = record { initial = [] } in
+        let begun : Done = nothing_done in
         let less = extends-less program inputs old new c.added c.appended e in
         let a = section_value scene 1 no_names (statements_of lines) in
         let b = operation_values program scene (whole_span program) begun old in
@@ -159,5 +159,5 @@ module _ (inputs : List InputUse) (holder later : List ℕ → Option ℕ) (old 
 -- a program of the operations of all statements has their values
 pub has-values : (script : Script) (lines : List Line) (holder : List ℕ → Option ℕ) (program : Program) → program.inputs ≡ inputs_of script → program.outputs ≡ outputs_from (binding_of script) 1 0 lines → HaveValues (inputs_of script) holder program.initial lines → HasValues script lines program
 has-values script lines holder program hi ho h = record {
-  same = λ known knows. reports-agree (binding_of script) holder lines program.outputs (section_value (scene_of known 0) 1 no_names (statements_of lines)) (operation_values program (scene_of known 0) (whole_span program) (record { initial = [] }) program.initial) ho (h.agree program (scene_of known 0) (record { more = []; inputs_are = hi; initial_is = sym (append-nil program.initial) }));
+  same = λ known knows. reports-agree (binding_of script) holder lines program.outputs (section_value (scene_of program.inputs known 0) 1 no_names (statements_of lines)) (operation_values program (scene_of program.inputs known 0) (whole_span program) nothing_done program.initial) ho (h.agree program (scene_of program.inputs known 0) (record { more = []; inputs_are = hi; initial_is = sym (append-nil program.initial) }));
 }

@@ -8,7 +8,7 @@ use Rattle.cell_values.specs.declared.kind.Kind.{Kind}
 use Rattle.map_meaning.specs.declared.program.Operation.{Operation}
 use Rattle.map_meaning.specs.declared.program.OutputUse.{OutputUse}
 use Rattle.map_meaning.specs.declared.program.Program.{Program}
-use Rattle.map_meaning.specs.Programs.{AreOperations, IsOutput, is_initial}
+use Rattle.map_meaning.specs.Programs.{AreOperations, IsOutput, is_initial, is_kept, is_written, operands_of}
 use Rattle.script_types.specs.declared.typed.Line.{Line}
 use Rattle.script_types.specs.Lowered.{output_of, outputs_from, total_operations}
 use Rattle.script_types.specs.Reports.{Bound, file_written}
@@ -117,13 +117,17 @@ kept-all bound statement before (l ∷ ls) ops front h ha hf =
     last-written front out rest n x hf ho hr = list_any-append (λ u. is_initial n u.value) front (out ++ rest) ∙ ap (λ b. writes front n || b) (list_any-append (λ u. is_initial n u.value) out rest) ∙ between (writes front n) (writes out n) (writes rest n) x hf ho hr
 
 -- well-formed operations that are handed out right
-join-forms : (program : Program) (n : ℕ) (ops : List Operation) → HaveForm program n ops → KeptRight program.outputs n ops → AreOperations program n ops
-join-forms program n [] hf hk = tt
-join-forms program n (o ∷ ops) hf hk = (record { a = hf.0.a; b = hf.0.b; c = hf.0.c; d = hf.0.d; used = hf.0.used; kinds = hf.0.kinds; kept = hk.0 }, join-forms program (n + 1) ops hf.1 hk.1)
+-- where no step reads anything, what is kept is what is written
+kept-is : (program : Program) (n : ℕ) → program.dynamic ≡ [] → is_kept program n ≡ is_written program n
+kept-is program n hd = ap (λ ops. list_any (λ o. list_any (is_initial n) (operands_of o)) ops || is_written program n) hd
+
+join-forms : (program : Program) (n : ℕ) (ops : List Operation) → program.dynamic ≡ [] → HaveForm program n ops → KeptRight program.outputs n ops → AreOperations program n ops
+join-forms program n [] hd hf hk = tt
+join-forms program n (o ∷ ops) hd hf hk = (record { a = hf.0.a; b = hf.0.b; c = hf.0.c; d = hf.0.d; used = hf.0.used; kinds = hf.0.kinds; file = hf.0.file; kept = hk.0 ∙ sym (kept-is program n hd) }, join-forms program (n + 1) ops hd hf.1 hk.1)
 
 -- the operations of a program of statements
-pub operations-formed : (bound : Bound) (lines : List Line) (program : Program) → program.outputs ≡ outputs_from bound 1 0 lines → AllHave lines → AreKept lines program.initial → HaveForm program 0 program.initial → AreOperations program 0 program.initial
-operations-formed bound lines program ho ha hk hf = join-forms program 0 program.initial hf (subst (λ us. KeptRight us 0 program.initial) (sym ho) (kept-all bound 1 0 lines program.initial [] hk ha (λ k lo. refl)))
+pub operations-formed : (bound : Bound) (lines : List Line) (program : Program) → program.dynamic ≡ [] → program.outputs ≡ outputs_from bound 1 0 lines → AllHave lines → AreKept lines program.initial → HaveForm program 0 program.initial → AreOperations program 0 program.initial
+operations-formed bound lines program hd ho ha hk hf = join-forms program 0 program.initial hd hf (subst (λ us. KeptRight us 0 program.initial) (sym ho) (kept-all bound 1 0 lines program.initial [] hk ha (λ k lo. refl)))
 
 -- there are as many as the statements have
 pub kept-count : (lines : List Line) (ops : List Operation) → AreKept lines ops → length ops ≡ total_operations lines

@@ -43,6 +43,9 @@ its-row count row h = by-meant row.meant refl h.built
   where
     by-meant : (m : Meant) → row.meant ≡ m → is_unbuilt_meant m ≡ false → row_of (op_of m) ≡ row
     by-meant (meant.Op o) e hb = h.its o e
+    by-meant meant.Step e hb = cc
+    by-meant meant.Stack e hb = cc
+    by-meant meant.Sample e hb = cc
     by-meant meant.Unbuilt e hb = cc
 
 -- ---- where operands agree

@@ -1,5 +1,5 @@
 -- What lowering a script answers.
-use Rattle.std.specs.Prelude.{◌≡◌, true, false, List, map, Result, Ok, Err, ⊤}
+use Rattle.std.specs.Prelude.{◌≡◌, true, false, List, [], map, Result, Ok, Err, ⊤}
 use Rattle.script_syntax.specs.declared.tree.Script.{Script}
 use Rattle.map_meaning.specs.declared.program.Program.{Program}
 use Rattle.map_meaning.specs.Programs.{IsWellFormed}
@@ -17,6 +17,7 @@ use Rattle.script_types.specs.Values.{HasValues}
 pub record IsProgramOf (script : Script) (lines : List Line) (program : Program) : Type 0 where
   pub inputs : program.inputs ≡ inputs_of script
   pub area : program.area ≡ area_number script
+  pub dynamic : program.dynamic ≡ []
   pub operations : map as_listed program.initial ≡ operations_from 1 lines
   pub outputs : program.outputs ≡ outputs_from (binding_of script) 1 0 lines
   pub steps : program.steps ≡ script.steps

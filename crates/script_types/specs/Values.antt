@@ -6,10 +6,10 @@ use Rattle.script_syntax.specs.declared.tree.Script.{Script}
 use Rattle.map_meaning.specs.declared.known.Known.{Known}
 use Rattle.map_meaning.specs.declared.known.OverAt.{OverAt}
 use Rattle.map_meaning.specs.declared.program.Operand.{Operand}
-use Rattle.map_meaning.specs.declared.program.Operand.TheVariants.{Unused, Literal, Input, Initial}
+use Rattle.map_meaning.specs.declared.program.Operand.TheVariants.{Initial}
 use Rattle.map_meaning.specs.declared.program.OutputUse.{OutputUse}
 use Rattle.map_meaning.specs.declared.program.Program.{Program}
-use Rattle.map_meaning.specs.Evaluation.{operation_values}
+use Rattle.map_meaning.specs.Evaluation.{nothing_done, operation_values}
 use Rattle.map_meaning.specs.Maps.{WholeMap, nth}
 use Rattle.map_meaning.specs.Scenes.{Scene}
 use Rattle.map_meaning.specs.Sections.{section_value}
@@ -49,10 +49,8 @@ script_reports script lines scene =
 
 -- the map of an operand that names an operation of `initial`, where the operations have these maps
 abbrev pub initial_map : List WholeMap → Operand → WholeMap
-initial_map maps Unused = []
-initial_map maps (Literal kind cell) = []
-initial_map maps (Input n) = []
 initial_map maps (Initial n) = nth maps n
+initial_map maps _ = []
 
 -- what an output writes, where the operations of `initial` have these maps
 abbrev pub written : List WholeMap → OutputUse → Written
@@ -61,11 +59,11 @@ written maps output = record { file = output.file; kind = output.cell_kind; cell
 -- What a program's outputs write, where its operations are evaluated one by one, or their first Over.
 abbrev pub program_reports : Program → Scene → Result (List Written) OverAt
 program_reports program scene =
-    operation_values program scene (whole_span program) (record { initial = [] }) program.initial >>= λ done.
+    operation_values program scene (whole_span program) nothing_done program.initial >>= λ done.
     Ok (map (written done.initial) program.outputs)
 
 -- The program has the values of a script's statements: over all maps of its inputs it writes what these report, or has
 -- their first Over.
 pub record HasValues (script : Script) (lines : List Line) (program : Program) : Type 0 where
   pub same : (known : Known) → Knows program (whole_span program) known →
-      program_reports program (scene_of known 0) ≡ script_reports script lines (scene_of known 0)
+      program_reports program (scene_of program.inputs known 0) ≡ script_reports script lines (scene_of program.inputs known 0)

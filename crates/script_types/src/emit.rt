@@ -48,6 +48,7 @@ fn operation_on(op: Op, kind: Kind, operands: &[Operand], at: At, below: usize) 
         b: operand_at(operands, 1),
         c: operand_at(operands, 2),
         d: operand_at(operands, 3),
+        file: 0,
         statement: at.statement,
         number: (below - at.first) as u32 + 1,
         kept: at.kept,

@@ -14,6 +14,7 @@ use crate::settle::{Settled, settle};
 use crate::unbuilt::is_unbuilt;
 use map_meaning::Program;
 use script_syntax::Script;
+use sqlite_items::Items;
 use std::alloc::{AllocError, Global};
 
 // The program of settled statements.
@@ -30,6 +31,7 @@ fn program_of(alloc: Global, script: &Script, settled: &Settled<'_>) -> Result<P
     Ok(Program {
         inputs,
         initial: written.ops,
+        dynamic: Items::new(alloc),
         outputs: written.outputs,
         area,
         steps: script.steps,

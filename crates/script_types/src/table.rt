@@ -1,7 +1,8 @@
-ghost use Rattle.std.specs.Prelude.{◌≡◌, ◌&&◌, ◌==◌, ◌≤◌, length};
+ghost use Rattle.std.specs.Prelude.{is_some, ◌≡◌, ◌&&◌, ◌==◌, ◌≤◌, length};
 ghost use Rattle.std.specs.Option.{option_copied};
 ghost use Rattle.std.specs.List.{find, list_any, position_or_len};
 ghost use Rattle.text_base.specs.Bytes.{space};
+ghost use Rattle.map_meaning.specs.Programs.{file_role};
 ghost use Rattle.map_meaning.specs.Table.{ask_at, takes};
 ghost use Rattle.script_types.specs.Names.{first_role, role_asked};
 ghost use Rattle.script_types.specs.Table.{is_spelled, is_unbuilt_meant, row_for, word_row, op_of, asks_drain};
@@ -63,13 +64,32 @@ fn find_word<'a>(rows: &'a [Row], word: &[u8]) -> Option<&'a Row>
     None
 }
 
+// Whether an operation looks its results up in a table or a series.
+fn looks_up(op: Op) -> bool
+    ensures { result ≡ is_some (file_role op 0) }
+{
+    matches!(
+        op,
+        Op::LookupBoolean
+            | Op::LookupNominal
+            | Op::LookupOrdinal
+            | Op::LookupScalar
+            | Op::LookupDirectional
+            | Op::TimeInputBoolean
+            | Op::TimeInputNominal
+            | Op::TimeInputOrdinal
+            | Op::TimeInputScalar
+            | Op::TimeInputDirectional
+    )
+}
+
 // Whether what the row stands for is not built.
 fn is_unbuilt_meant(meant: Meant) -> bool
     ensures { result ≡ is_unbuilt_meant meant }
 {
     match meant {
-        Meant::Unbuilt => true,
-        Meant::Op(_) => false,
+        Meant::Op(op) => looks_up(op),
+        Meant::Step | Meant::Stack | Meant::Sample | Meant::Unbuilt => true,
     }
 }
 
@@ -137,7 +157,7 @@ pub fn op_of(meant: Meant) -> Op
 {
     match meant {
         Meant::Op(op) => op,
-        Meant::Unbuilt => Op::CopyOf,
+        Meant::Step | Meant::Stack | Meant::Sample | Meant::Unbuilt => Op::CopyOf,
     }
 }
 

@@ -7,8 +7,8 @@ use Rattle.map_meaning.specs.declared.program.Operation.{Operation}
 use Rattle.map_meaning.specs.declared.program.Program.{Program}
 use Rattle.map_meaning.specs.declared.program.Role.TheVariants.{Grid}
 use Rattle.map_meaning.specs.declared.tree.Tree.{Tree}
-use Rattle.map_meaning.specs.Programs.{IsBelow, are_used_first, is_unused, kinds_of, operands_of}
-use Rattle.map_meaning.specs.Table.{HasKinds, row_of}
+use Rattle.map_meaning.specs.Programs.{IsBelow, IsFileOf, are_used_first, file_role, is_unused, kinds_of, operands_of}
+use Rattle.map_meaning.specs.Table.{HasKinds, map_row, row_of}
 use Rattle.map_meaning.specs.Trees.{meaning_of}
 use Rattle.script_types.specs.declared.typed.Line.{Line}
 use Rattle.script_types.specs.Statements.{operations_of}
@@ -38,7 +38,8 @@ pub record HasForm (program : Program) (n : ℕ) (o : Operation) : Type 0 where
   pub c : IsBelow program n o.c
   pub d : IsBelow program n o.d
   pub used : are_used_first (operands_of o) ≡ true
-  pub kinds : HasKinds (row_of o.op) (kinds_of program o) o.kind
+  pub kinds : HasKinds (map_row (row_of o.op)) (kinds_of program o) o.kind
+  pub file : IsFileOf program (file_role o.op (length (kinds_of program o))) o.kind o.file
 
 -- operations whose numbers count from n
 abbrev pub HaveForm : Program → ℕ → List Operation → Type 0

@@ -4,7 +4,7 @@ use Rattle.map_meaning.specs.declared.known.OverAt.{OverAt}
 use Rattle.map_meaning.specs.declared.program.InputUse.{InputUse}
 use Rattle.map_meaning.specs.declared.program.Operation.{Operation}
 use Rattle.map_meaning.specs.declared.program.Program.{Program}
-use Rattle.map_meaning.specs.Evaluation.{Done, operation_values}
+use Rattle.map_meaning.specs.Evaluation.{Done, nothing_done, operation_values}
 use Rattle.map_meaning.specs.Maps.{WholeMap, nth}
 use Rattle.map_meaning.specs.Scenes.{Scene}
 use Rattle.map_meaning.specs.Sections.{After, section_value}
@@ -39,7 +39,7 @@ pub record HaveValues (inputs : List InputUse) (holder : List ℕ → Option ℕ
   pub held : NamesHeld (ground_below inputs lines) holder ops
   pub agree : (program : Program) (scene : Scene) → Extends program inputs ops →
       Agree holder lines (section_value scene 1 no_names (statements_of lines))
-      (operation_values program scene (whole_span program) (record { initial = [] }) ops)
+      (operation_values program scene (whole_span program) nothing_done ops)
 
 -- one more statement was written: it has its value, where it fits
 abbrev pub AddsValues : (List ℕ → Option ℕ) → (List ℕ → Option ℕ) → List Operation → List Operation → ℕ → Line → Type 0

@@ -3,23 +3,32 @@ use Rattle.std.specs.Prelude.{◌≡◌, ◌<◌, ◌-◌, ℕ, List, [], ◌∷
 use Rattle.text_base.specs.Results.{◌>>=◌}
 use Rattle.map_meaning.specs.declared.program.InputUse.{InputUse}
 use Rattle.map_meaning.specs.declared.program.Operand.{Operand}
-use Rattle.map_meaning.specs.declared.program.Operand.TheVariants.{Unused, Literal, Input, Initial}
+use Rattle.map_meaning.specs.declared.program.Operand.TheVariants.{Unused, Literal, Time, Input, Initial, Now, Last}
+use Rattle.map_meaning.specs.declared.program.Operand.TheVariants as from
 use Rattle.map_meaning.specs.declared.program.Operation.{Operation}
 use Rattle.map_meaning.specs.declared.program.Program.{Program}
 use Rattle.map_meaning.specs.declared.tree.Tree.{Tree}
-use Rattle.map_meaning.specs.Evaluation.{operation_values}
-use Rattle.map_meaning.specs.Maps.{WholeMap, everywhere, nth}
+use Rattle.map_meaning.specs.Evaluation.{Done, last_map, operation_values}
+use Rattle.map_meaning.specs.Maps.{WholeMap, everywhere, nth, step_cell}
 use Rattle.map_meaning.specs.Programs.{operand_kind}
-use Rattle.map_meaning.specs.Scenes.{Scene, place_count}
+use Rattle.map_meaning.specs.Scenes.{Scene, place_count, stack_map}
 use Rattle.map_meaning.specs.Spans.{whole_span}
 use Rattle.map_meaning.specs.Trees.{Environment, meaning_of, operations_in, values_from_left}
+
+-- these maps of `initial` are done, and nothing else
+abbrev pub initially : List WholeMap → Done
+initially maps = record { initial = maps; dynamic = []; last = [] }
 
 -- the map of an operand, where these maps are done
 abbrev pub operand_map : Scene → List WholeMap → Operand → WholeMap
 operand_map scene maps Unused = []
 operand_map scene maps (Literal kind cell) = everywhere (place_count scene) cell
+operand_map scene maps Time = everywhere (place_count scene) (step_cell scene.step)
 operand_map scene maps (Input n) = nth scene.inputs n
+operand_map scene maps (from.Stack n) = stack_map scene n
 operand_map scene maps (Initial n) = nth maps n
+operand_map scene maps (Now n) = []
+operand_map scene maps (Last dynamic n) = last_map scene (initially maps) dynamic n
 
 -- the program has these inputs and begins with these operations
 pub record Extends (program : Program) (inputs : List InputUse) (ops : List Operation) : Type 0 where
@@ -30,6 +39,7 @@ pub record Extends (program : Program) (inputs : List InputUse) (ops : List Oper
 -- the operand names an operation before this one, or none
 abbrev pub NamesBefore : ℕ → Operand → Type 0
 NamesBefore n (Initial k) = k < n
+NamesBefore n (Last dynamic k) = k < n
 NamesBefore n _ = ⊤
 
 -- a name that an operation holds has that operation's map
@@ -47,6 +57,7 @@ pub record HasOperands (o : Operation) (xs : List Operand) : Type 0 where
   pub b : o.b ≡ slice_index_or xs 1 Unused
   pub c : o.c ≡ slice_index_or xs 2 Unused
   pub d : o.d ≡ slice_index_or xs 3 Unused
+  pub file : o.file ≡ 0
 
 -- The operations that were added compute an expression: the operand has its kind and its value, or they give its first Over.
 pub record Computes (inputs : List InputUse) (holder : List ℕ → Option ℕ)
@@ -60,7 +71,7 @@ pub record Computes (inputs : List InputUse) (holder : List ℕ → Option ℕ)
   pub value : (program : Program) (scene : Scene) (names : Environment) (maps : List WholeMap) → Extends program inputs new →
       length maps ≡ length old → HoldsMap holder names maps →
       (meaning_of t).value (record { scene = scene; names = names; statement = statement }) (length old - first) ≡
-      operation_values program scene (whole_span program) (record { initial = maps }) added >>= λ after.
+      operation_values program scene (whole_span program) (initially maps) added >>= λ after.
       Ok (operand_map scene after.initial x)
 
 -- the same of some expressions, from the left
@@ -76,5 +87,5 @@ pub record ComputesAll (inputs : List InputUse) (holder : List ℕ → Option �
   pub values : (program : Program) (scene : Scene) (names : Environment) (maps : List WholeMap) → Extends program inputs new →
       length maps ≡ length old → HoldsMap holder names maps →
       values_from_left (map meaning_of ts) (record { scene = scene; names = names; statement = statement }) (length old - first) ≡
-      operation_values program scene (whole_span program) (record { initial = maps }) added >>= λ after.
+      operation_values program scene (whole_span program) (initially maps) added >>= λ after.
       Ok (map (operand_map scene after.initial) xs)
