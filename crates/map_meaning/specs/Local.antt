@@ -142,14 +142,14 @@ defined_of (Val a) = Ok (truth true)
 -- ---- tables and series
 
 -- the number of an outcome, if it has one
-abbrev pub number_in : Outcome → Option ℤ
-number_in (Ok Mv) = None
-number_in (Ok (Val z)) = Some z
-number_in (Err over) = None
+abbrev pub outcome_number : Outcome → Option ℤ
+outcome_number (Ok Mv) = None
+outcome_number (Ok (Val z)) = Some z
+outcome_number (Err over) = None
 
 -- the number of a key as a scalar, as the keys of tables are; none where its cell is missing
 abbrev pub key_number : Kind → Cell → Option ℤ
-key_number kind cell = number_in (conversion_of kind Scalar cell)
+key_number kind cell = outcome_number (conversion_of kind Scalar cell)
 
 -- the number of the key at a place behind the first; one that the table does not have counts as 0
 abbrev pub further_key : TableValue → List Kind → ℕ → Cell → Option ℤ

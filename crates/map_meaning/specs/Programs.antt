@@ -189,8 +189,8 @@ abbrev pub is_written : Program → ℕ → Bool
 is_written program n = is_output program (is_initial n)
 
 -- An operation of `initial` is kept where a step reads its map, or an output writes it.
-abbrev pub is_kept : Program → ℕ → Bool
-is_kept program n = is_read_in_steps program (is_initial n) || is_written program n
+abbrev pub is_kept_map : Program → ℕ → Bool
+is_kept_map program n = is_read_in_steps program (is_initial n) || is_written program n
 
 -- a step reads the map that the operation of `dynamic` with this number had at the step before
 abbrev pub is_carried : Program → ℕ → Bool
@@ -204,7 +204,7 @@ is_kept_in_steps program n = is_carried program n || is_output program (λ opera
 
 -- An operation of `initial` with this number: it reads inputs, numbers and operations before it.
 abbrev pub IsOperation : Program → ℕ → Operation → Type 0
-IsOperation program n o = IsOperationOf program (IsBelow program n) (is_kept program n) o
+IsOperation program n o = IsOperationOf program (IsBelow program n) (is_kept_map program n) o
 
 -- An operation of `dynamic` with this number: it reads also the step, stacks, operations of `initial`, and those of the step
 -- before.

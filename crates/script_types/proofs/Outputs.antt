@@ -8,7 +8,7 @@ use Rattle.cell_values.specs.declared.kind.Kind.{Kind}
 use Rattle.map_meaning.specs.declared.program.Operation.{Operation}
 use Rattle.map_meaning.specs.declared.program.OutputUse.{OutputUse}
 use Rattle.map_meaning.specs.declared.program.Program.{Program}
-use Rattle.map_meaning.specs.Programs.{AreOperations, IsOutput, is_initial, is_kept, is_written, operands_of}
+use Rattle.map_meaning.specs.Programs.{AreOperations, IsOutput, is_initial, is_kept_map, is_written, operands_of}
 use Rattle.script_types.specs.declared.typed.Line.{Line}
 use Rattle.script_types.specs.Lowered.{output_of, outputs_from, total_operations}
 use Rattle.script_types.specs.Reports.{Bound, file_written}
@@ -118,7 +118,7 @@ kept-all bound statement before (l ∷ ls) ops front h ha hf =
 
 -- well-formed operations that are handed out right
 -- where no step reads anything, what is kept is what is written
-kept-is : (program : Program) (n : ℕ) → program.dynamic ≡ [] → is_kept program n ≡ is_written program n
+kept-is : (program : Program) (n : ℕ) → program.dynamic ≡ [] → is_kept_map program n ≡ is_written program n
 kept-is program n hd = ap (λ ops. list_any (λ o. list_any (is_initial n) (operands_of o)) ops || is_written program n) hd
 
 join-forms : (program : Program) (n : ℕ) (ops : List Operation) → program.dynamic ≡ [] → HaveForm program n ops → KeptRight program.outputs n ops → AreOperations program n ops

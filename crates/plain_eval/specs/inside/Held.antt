@@ -16,7 +16,8 @@ use Rattle.cell_values.specs.declared.kind.Kind.{Kind}
 use Rattle.map_meaning.specs.declared.known.StepMap.{StepMap}
 use Rattle.map_meaning.specs.declared.program.Role.{Role}
 use Rattle.map_meaning.specs.declared.program.Role.TheVariants.{Table, Series}
-use Rattle.map_meaning.specs.Programs.{are_used_first, file_role, is_grid_role, is_series_role, is_table_role, is_unused, kinds_of, operand_kind, operands_of}
+use Rattle.map_meaning.specs.Programs.{are_used_first, file_role, is_grid_role, is_series_role, is_table_role}
+use Rattle.map_meaning.specs.Programs.{is_unused, kinds_of, operand_kind, operands_of}
 use Rattle.map_meaning.specs.Limits.{most_inputs}
 use Rattle.map_meaning.specs.Rules.{kind_at, no_series, no_table}
 use Rattle.map_meaning.specs.Table.{HasKinds, map_row, row_of}
@@ -120,14 +121,16 @@ pub record HasTable (program : Program) (known : Known) (n : ℕ) : Type 0 where
   pub within : n < length program.inputs
   pub few : n ≤ most_inputs
   pub there : many_before is_table_role program.inputs n < length known.tables
-  pub is : slice_index_or known.tables (many_before is_table_role program.inputs n) no_table ≡ slice_index_or (at_inputs is_table_role no_table program.inputs known.tables) n no_table
+  pub is : slice_index_or known.tables (many_before is_table_role program.inputs n) no_table ≡
+      slice_index_or (at_inputs is_table_role no_table program.inputs known.tables) n no_table
 
 -- the series of an operation is known, at its place among the series
 pub record HasSeries (program : Program) (known : Known) (n : ℕ) : Type 0 where
   pub within : n < length program.inputs
   pub few : n ≤ most_inputs
   pub there : many_before is_series_role program.inputs n < length known.series
-  pub is : slice_index_or known.series (many_before is_series_role program.inputs n) no_series ≡ slice_index_or (at_inputs is_series_role no_series program.inputs known.series) n no_series
+  pub is : slice_index_or known.series (many_before is_series_role program.inputs n) no_series ≡
+      slice_index_or (at_inputs is_series_role no_series program.inputs known.series) n no_series
 
 -- what an operation looks its results up in is known
 abbrev pub HasFile : Program → Known → Option Role → ℕ → Type 0

@@ -41,10 +41,10 @@ own_number (span.Initial first end) operand = initial_number operand
 own_number (span.Steps first last) operand = now_number operand
 
 -- it is the number k
-abbrev pub names : ℕ → Option ℕ → Bool
-names k None = false
-names k (Some n) = n == k
+abbrev pub is_own_number : ℕ → Option ℕ → Bool
+is_own_number k None = false
+is_own_number k (Some n) = n == k
 
 -- the operand may be the map of the operation k of the span's own section
 abbrev pub is_own : Span → ℕ → Operand → Bool
-is_own s k operand = names k (own_number s operand)
+is_own s k operand = is_own_number k (own_number s operand)

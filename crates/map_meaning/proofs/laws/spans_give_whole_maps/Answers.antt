@@ -12,7 +12,7 @@ use Rattle.map_meaning.specs.declared.program.Program.{Program}
 use Rattle.map_meaning.specs.Evaluation.{Done, nothing_done, operation_part, operation_values}
 use Rattle.map_meaning.specs.Laws.{IsWholeMap, operations_at}
 use Rattle.map_meaning.specs.Maps.{IsMapOf, WholeMap}
-use Rattle.map_meaning.specs.Programs.{IsBelow, IsOperation, IsStepOperation, IsWellFormed, is_kept}
+use Rattle.map_meaning.specs.Programs.{IsBelow, IsOperation, IsStepOperation, IsWellFormed, is_kept_map}
 use Rattle.map_meaning.specs.Scenes.{Scene}
 use Rattle.map_meaning.specs.Spans.{AreSteps, Knows, done_before, done_next, kept_map, kept_maps, scene_of, stage_of, told_of, told_steps, told_then}
 use Rattle.map_meaning.proofs.WholeMaps.{AreDone, AreFrom, HasInputs, HasStacksAt, IsDoneNow, IsReadNow, from_list, kept_whole, map_whole, none_done, one_more_done, operation_of, read_now, scene_inputs, sound_initial, sound_now, step_operation_of, values_hold}
@@ -45,7 +45,7 @@ module _ (program : Program) (known : Known) (formed : IsWellFormed program) whe
         let within : n < length program.initial = slice_get_within program.initial n o is in
         let here : 0 + n ≡ n = omega arith in
         let formed_o = subst (λ j. IsOperation program j o) here (operation_of program 0 n program.initial o formed.operations is) in
-        map_whole program scene done inputs (IsBelow program n) (sound_initial program scene done inputs n (omega arith) all) o (is_kept program n) formed_o
+        map_whole program scene done inputs (IsBelow program n) (sound_initial program scene done inputs n (omega arith) all) o (is_kept_map program n) formed_o
 
     initial_next : (n : ℕ) (done : Done) (o : Operation) (m : WholeMap) → Holds n done → slice_get program.initial n ≡ Some o → IsMapOf places o.kind m → AreDone program.initial places (n + 1) (done.initial ++ m ∷ [])
     initial_next n done o m all is whole = one_more_done program.initial places n done.initial o m all is whole
