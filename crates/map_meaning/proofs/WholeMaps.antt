@@ -5,6 +5,7 @@ use Rattle.std.specs.List.{AllZip, filter, filter_map, cons_option, list_all, li
 use Rattle.std.proofs.lemmas.Bool.{eq-eqb, or_left, or_right}
 use Rattle.std.proofs.lemmas.Int.{ints}
 use Rattle.std.proofs.lemmas.List.{get_or_append_left}
+use Rattle.std.proofs.lemmas.Option.{slice_get_within}
 use Rattle.std.proofs.Math.Seq.{get_or-append_seam}
 use Rattle.std.proofs.lemmas.List.Elements.{All-cons, All-nil, All-from_get_or}
 use Rattle.text_base.specs.Results.{◌>>=◌}
@@ -17,6 +18,7 @@ use Rattle.tile_map.specs.Parts.{IsPart, Outcome, or_missing, part_of}
 use Rattle.map_meaning.specs.declared.known.Known.{Known}
 use Rattle.map_meaning.specs.declared.known.OverAt.{OverAt}
 use Rattle.map_meaning.specs.declared.known.Span.{Span}
+use Rattle.map_meaning.specs.declared.known.Span.TheVariants as span
 use Rattle.map_meaning.specs.declared.program.InputUse.{InputUse}
 use Rattle.map_meaning.specs.declared.program.Operand.{Operand}
 use Rattle.map_meaning.specs.declared.program.Operand.TheVariants.{Unused, Literal, Time, Input, Initial, Now, Last}
@@ -25,14 +27,14 @@ use Rattle.map_meaning.specs.declared.program.Operation.{Operation}
 use Rattle.map_meaning.specs.declared.program.Program.{Program}
 use Rattle.map_meaning.specs.declared.program.Role.{Role}
 use Rattle.map_meaning.specs.declared.program.Role.TheVariants.{Grid, Stack, Table, Series}
-use Rattle.map_meaning.specs.Evaluation.{Done, last_map, operand_cell, operation_part, outcome_at, operation_value, operation_values, with_map}
+use Rattle.map_meaning.specs.Evaluation.{Done, last_map, nothing_done, operand_cell, operation_part, outcome_at, operation_value, operation_values, with_map}
 use Rattle.map_meaning.specs.Laws.{HaveKindsAt, HoldsKind, IsWholeMap, LiesIn, operations_at}
 use Rattle.map_meaning.specs.Limits.{most_steps}
 use Rattle.map_meaning.specs.Maps.{CellAt, IsMapOf, WholeMap, nth, step_cell}
 use Rattle.map_meaning.specs.Rules.{no_series, no_table}
 use Rattle.map_meaning.specs.Scenes.{Scene, place_count, setting_at, stack_map}
 use Rattle.map_meaning.specs.Overs.{map_or_over}
-use Rattle.map_meaning.specs.Programs.{AreOneName, AreOperations, AreStepOperations, IsBelow, IsBelowNow, IsFileOf, IsInput, IsOperation, IsOperationOf, IsStepOperation}
+use Rattle.map_meaning.specs.Programs.{AreOneName, AreOperations, AreStepOperations, IsBelow, IsBelowNow, IsFileOf, IsInput, IsOperation, IsOperationOf, IsStepOperation, IsWellFormed, is_kept_map}
 use Rattle.map_meaning.specs.Programs.{are_used_first, file_role, input_kind, is_carried, is_grid_role, is_initial, is_last, is_read_in_steps, is_series_role, is_table_role, is_unused, kinds_of, operand_kind, operands_of, operation_kind}
 use Rattle.map_meaning.specs.Spans.{AreInputMaps, AreOfInputs, HasSeriesKind, HasTableKind, IsTableOf, at_inputs, kept_maps, scene_of}
 use Rattle.tile_map.proofs.Callers.{is_part-part_of}
@@ -433,6 +435,34 @@ module _ (program : Program) (scene : Scene) (s : Span) (all : List Operation) (
           let one : IsMapOf (place_count scene) o.kind m = subst (IsMapOf (place_count scene) o.kind) cells (whole n done o holds from.0) in
           let same : n + 1 + length more ≡ n + length (o ∷ more) = omega arith in
           subst (λ k. Holds k after) same (later m (next n done o m holds from.0 one) is)
+
+-- ---- the operations of `initial`
+
+module _ (program : Program) (known : Known) (formed : IsWellFormed program) (inputs : HasInputs program (scene_of program.inputs known 0)) where
+  abbrev initial_places : ℕ
+  initial_places = known.rows * known.cols
+
+  abbrev initial_scene : Scene
+  initial_scene = scene_of program.inputs known 0
+
+  abbrev HoldsInitial : ℕ → Done → Type 0
+  HoldsInitial n done = AreDone program.initial initial_places n done.initial
+
+  initial_whole : (n : ℕ) (done : Done) (o : Operation) → HoldsInitial n done → slice_get program.initial n ≡ Some o → IsMapOf initial_places o.kind (operation_part program initial_scene done o).cells
+  initial_whole n done o all is =
+      let within : n < length program.initial = slice_get_within program.initial n o is in
+      let here : 0 + n ≡ n = omega arith in
+      let formed_o = subst (λ j. IsOperation program j o) here (operation_of program 0 n program.initial o formed.operations is) in
+      map_whole program initial_scene done inputs (IsBelow program n) (sound_initial program initial_scene done inputs n (omega arith) all) o (is_kept_map program n) formed_o
+
+  initial_next : (n : ℕ) (done : Done) (o : Operation) (m : WholeMap) → HoldsInitial n done → slice_get program.initial n ≡ Some o → IsMapOf initial_places o.kind m → AreDone program.initial initial_places (n + 1) (done.initial ++ m ∷ [])
+  initial_next n done o m all is whole = one_more_done program.initial initial_places n done.initial o m all is whole
+
+  -- where all operations of `initial` are done, their maps are whole
+  pub initial_done : (end : ℕ) (done : Done) → operation_values program initial_scene (span.Initial 0 end) nothing_done program.initial ≡ Ok done → AreDone program.initial initial_places (0 + length program.initial) done.initial
+  initial_done end done gives =
+      values_hold program initial_scene (span.Initial 0 end) program.initial HoldsInitial initial_whole initial_next 0 nothing_done done program.initial (none_done program.initial initial_places)
+      (from_list program.initial 0 program.initial (λ k. let same : 0 + k ≡ k = omega arith in ap (slice_get program.initial) same)) gives
 
 -- ---- kept maps
 

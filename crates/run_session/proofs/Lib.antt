@@ -1,4 +1,5 @@
 pub mod Lists
+pub mod NoSteps
 pub mod Rest
 pub mod Search
 pub mod Stage

@@ -7,9 +7,8 @@ use Rattle.cell_values.specs.declared.kind.Kind.TheVariants.{Scalar}
 use Rattle.map_meaning.specs.declared.program.InputUse.{InputUse}
 use Rattle.map_meaning.specs.declared.program.Role.TheVariants.{Grid}
 use Rattle.map_meaning.specs.Maps.{WholeMap, IsMapOf}
-use Rattle.map_meaning.specs.Spans.{AreInputMaps}
 use Rattle.run_session.specs.Course.{numbered_input}
-use Rattle.run_session.specs.inside.Parts.{HasAreaMap}
+use Rattle.run_session.specs.inside.Parts.{AreMapsOf, HasAreaMap}
 
 -- the item at the loop's index stands in front of those that are left
 pub item_here : {A : Type 0} (items : List A) (i : ℕ) (a : A) → i < length items → a ≡ get_or items i a → drop i items ≡ a ∷ drop (i + 1) items
@@ -38,7 +37,7 @@ pub has_area : (places number : ℕ) (list : List InputUse) (input : InputUse) (
 has_area places number list input cells is whole = subst (λ found. IfSome found (λ input. IsMapOf places input.kind cells)) (sym is) whole
 
 -- one more input has its map
-pub maps_more : (places : ℕ) (list : List InputUse) (maps : List WholeMap) (input : InputUse) (m : WholeMap) → AreInputMaps places list maps → IsMapOf places input.kind m → AreInputMaps places (list ++ input ∷ []) (maps ++ m ∷ [])
+pub maps_more : (places : ℕ) (list : List InputUse) (maps : List WholeMap) (input : InputUse) (m : WholeMap) → AreMapsOf places list maps → IsMapOf places input.kind m → AreMapsOf places (list ++ input ∷ []) (maps ++ m ∷ [])
 maps_more places [] [] input m all whole = (whole, tt)
 maps_more places [] (x ∷ maps) input m all whole = absurd all
 maps_more places (i ∷ list) [] input m all whole = absurd all

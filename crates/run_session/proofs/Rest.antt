@@ -1,5 +1,5 @@
 -- What is left of a run after each of its parts.
-use Rattle.std.proofs.Common.{◌≡◌, false, cond, refl, sym, ap, subst, ◌∙◌}
+use Rattle.std.proofs.Common.{◌≡◌, ◌*◌, false, cond, refl, sym, ap, subst, ◌∙◌}
 use Rattle.std.specs.Prelude.{List, ℕ, [], ◌∷◌, length, Ok, Err, Result, IfOk, IfErr, IsErrAnd}
 use Rattle.std.specs.declared.option.Option.{Option}
 use Rattle.outside_io.specs.State.{FolderState}
@@ -12,13 +12,14 @@ use Rattle.script_syntax.specs.declared.tree.Script.{Script}
 use Rattle.map_meaning.specs.declared.known.OverAt.{OverAt}
 use Rattle.map_meaning.specs.declared.program.InputUse.{InputUse}
 use Rattle.map_meaning.specs.declared.program.Program.{Program}
-use Rattle.map_meaning.specs.Spans.{Knows, RunOf, whole_span}
+use Rattle.map_meaning.specs.Programs.{is_series_role, is_table_role}
+use Rattle.map_meaning.specs.Spans.{HasSeriesKind, IsTableOf, Knows, RunOf, scene_of, whole_span}
 use Rattle.grid_text.specs.declared.grid.Grid.{Grid}
 use Rattle.script_types.specs.Answers.{IsLowered}
 use Rattle.script_types.specs.Meaning.{meaning}
 use Rattle.script_types.specs.declared.typed.Line.{Line}
 use Rattle.script_types.specs.Unbuilt.{is_unbuilt}
-use Rattle.script_types.specs.Values.{Written}
+use Rattle.script_types.specs.Values.{Written, script_reports}
 use Rattle.run_session.specs.declared.ends.SessionEnd.{SessionEnd}
 use Rattle.run_session.specs.declared.ends.SessionEnd.TheVariants as session
 use Rattle.run_session.specs.declared.ends.Stop.{Stop}
@@ -30,7 +31,8 @@ use Rattle.run_session.specs.Course.{CheckedScript, Loaded, Many, checked_run, c
 use Rattle.run_session.specs.Course.{one_more_map, or_meaning, or_overflow, report_run, start_run, text_run}
 use Rattle.run_session.specs.Ends.{ScriptEnd, Unbuilt, script_end, why}
 use Rattle.run_session.specs.Evaluation.{known_of, reports_of}
-use Rattle.run_session.specs.inside.Parts.{AreInputsOf, IsProgramFor, MakesFor, StopsAt, WasRun, outputs_over, stop_outcome, tally_of}
+use Rattle.run_session.specs.inside.Parts.{AreInputsOf, HasNoSteps, IsProgramFor, MakesFor, StopsAt, WasRun, outputs_over, stop_outcome, tally_of}
+use Rattle.run_session.proofs.NoSteps.{grid_maps, no_steps, none_known}
 
 -- ---- what is left
 
@@ -82,8 +84,16 @@ program_made name script old mid (Err at) lowered stops m =
     (meets_settled (why_by why) (checked_script name script) mid (stopped_by (stop_outcome at)) stops)
 
 -- inputs that were read are known
-pub ready_knows : (program : Program) (inputs : Inputs) → AreInputsOf program.inputs inputs → Knows program (whole_span program) (known_of inputs)
-ready_knows program inputs are = record { some_rows = are.size.some_rows; some_cols = are.size.some_cols; few = are.size.few; maps = are.maps }
+pub ready_knows : (program : Program) (inputs : Inputs) → HasNoSteps program → AreInputsOf program.inputs inputs → Knows program (whole_span program) (known_of inputs)
+ready_knows program inputs stepless are = record {
+  some_rows = are.size.some_rows;
+  some_cols = are.size.some_cols;
+  few = are.size.few;
+  maps = grid_maps (inputs.frame.rows * inputs.frame.cols) program.inputs inputs.maps stepless.inputs are.maps;
+  tables = none_known is_table_role IsTableOf refl program.inputs stepless.inputs;
+  series = none_known is_series_role (λ input series. HasSeriesKind input.kind series) refl program.inputs stepless.inputs;
+  outside = tt;
+}
 
 -- ---- what was read is run
 
@@ -91,7 +101,9 @@ module _ (l : Loaded) (program : Program) (for : IsProgramFor (record { script =
   -- its program reports what its statements do
   reports_same : outputs_over program inputs ≡ reports_of l.script l.lines l.inputs
   reports_same =
-      for.lowered.values.same (known_of inputs) (ready_knows program inputs are) ∙ (ap (λ lines. reports_of l.script lines inputs) for.lines ∙ ap (reports_of l.script l.lines) same)
+      let knows = ready_knows program inputs (no_steps l.script program for.lowered) are in
+      for.lowered.values.same (known_of inputs) knows ∙ (ap (λ list. script_reports l.script for.lowered.lines (scene_of list (known_of inputs) 0)) for.lowered.program_of.inputs ∙
+      (ap (λ lines. reports_of l.script lines inputs) for.lines ∙ ap (reports_of l.script l.lines) same))
 
   -- its program is run as it is
   pub start_same : (admits : Program → ℕ → ℕ → Option ℕ) (many : Script → Many) → CountsTasks admits many →
@@ -120,7 +132,7 @@ module _ (l : Loaded) (program : Program) (for : IsProgramFor (record { script =
       record {
         program_same = refl;
         span_same = refl;
-        knows = ready_knows program inputs are;
+        knows = ready_knows program inputs (no_steps l.script program for.lowered) are;
         rows = ap (λ (i : Inputs). i.frame.rows) same;
         cols = ap (λ (i : Inputs). i.frame.cols) same;
         maps = ap (λ (i : Inputs). i.maps) same;

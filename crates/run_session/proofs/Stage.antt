@@ -3,28 +3,30 @@ use Rattle.std.proofs.Common.{zero, suc, ◌≡◌, ℕ, ◌+◌, ◌*◌, ◌-�
 use Rattle.std.specs.Prelude.{◌||◌, All, Some, slice_get, slice_range}
 use Rattle.std.specs.List.{list_any}
 use Rattle.std.proofs.Math.Seq.{take-length}
-use Rattle.std.proofs.lemmas.Bool.{eq-eqb, ne_eqb}
+use Rattle.std.proofs.lemmas.Bool.{eq-eqb, ne_eqb, or_right}
 use Rattle.std.proofs.lemmas.Option.{slice_get_within, slice_get-get_or, get_or_from_slice_get}
 use Rattle.text_base.specs.Results.{◌>>=◌}
 use Rattle.outside_io.specs.Causes.{CameTo, CutOff, NoMemory, ReadFault, WriteFault, RunOutcome, stopped_by, why_by}
 use Rattle.outside_io.specs.inside.Parts.{Settles}
 use Rattle.map_meaning.specs.declared.known.OverAt.{OverAt}
 use Rattle.map_meaning.specs.declared.known.StepMap.{StepMap}
+use Rattle.map_meaning.specs.declared.program.Operand.TheVariants.{Initial}
 use Rattle.map_meaning.specs.declared.program.Operation.{Operation}
 use Rattle.map_meaning.specs.declared.program.OutputUse.{OutputUse}
 use Rattle.map_meaning.specs.declared.program.Program.{Program}
-use Rattle.map_meaning.specs.Evaluation.{Done, operation_values}
+use Rattle.map_meaning.specs.Evaluation.{Done, nothing_done, operation_values}
 use Rattle.map_meaning.specs.Maps.{WholeMap, nth}
-use Rattle.map_meaning.specs.Programs.{AreOperations, IsOperation, IsOutput, IsWellFormed, is_initial, is_written}
-use Rattle.map_meaning.specs.Spans.{AreInputMaps, kept_map, kept_maps, scene_of, stage_of, told_of, whole_span}
-use Rattle.map_meaning.proofs.WholeMaps.{AreDone, AreFrom, none_done, values_done}
+use Rattle.map_meaning.specs.Programs.{AreOperations, IsOperation, IsOutput, IsOutputValue, IsWellFormed, is_initial, is_kept_map, is_read_in_steps, is_written}
+use Rattle.map_meaning.specs.Spans.{Knows, kept_map, kept_maps, scene_of, stage_of, told_of, whole_span}
+use Rattle.map_meaning.proofs.WholeMaps.{AreDone, initial_done, scene_inputs}
 use Rattle.script_types.specs.Values.{Written, initial_map, written}
+use Rattle.run_session.proofs.NoSteps.{initial_at}
 use Rattle.run_session.proofs.Search.{kept_ascend}
 use Rattle.run_session.specs.declared.inputs.Inputs.{Inputs}
 use Rattle.run_session.specs.Course.{or_overflow}
 use Rattle.run_session.specs.Ends.{ScriptEnd, Overflow, why}
 use Rattle.run_session.specs.Evaluation.{known_of}
-use Rattle.run_session.specs.inside.Parts.{AscendFrom, IsKeptOutput, has_kept, kept_of, kept_written, outputs_over, stage_result}
+use Rattle.run_session.specs.inside.Parts.{AscendFrom, HasNoSteps, IsKeptOutput, has_kept, kept_of, kept_written, outputs_over, stage_result}
 
 -- ---- lists
 
@@ -105,32 +107,39 @@ operation_at program n (suc k) (p ∷ ops) o all is =
 
 -- ---- the outputs of a program
 
-module _ (program : Program) (places : ℕ) (maps : List WholeMap) (formed : IsWellFormed program) (done : AreDone program places (length program.initial) maps) where
+module _ (program : Program) (places : ℕ) (maps : List WholeMap) (formed : IsWellFormed program) (stepless : HasNoSteps program) (done : AreDone program.initial places (length program.initial) maps) where
   abbrev kept_all : List StepMap
   kept_all = kept_maps 0 maps 0 program.initial
 
+  -- an output writes the map of an operation of `initial`
+  value_at : (i : ℕ) (o : OutputUse) → slice_get program.outputs i ≡ Some o → IsOutput program o → (n : ℕ) × (o.value ≡ Initial n) × (n < length program.initial)
+  value_at i o is output = subst (λ kind. IsOutputValue program kind o.value) (initial_at program.outputs i o stepless.outputs is) output.value
+
   -- the map that an output writes is kept
-  output_here : (i : ℕ) (o : OutputUse) → slice_get program.outputs i ≡ Some o → (output : IsOutput program o) → IsHere output.value.0 (nth maps output.value.0) kept_all
+  output_here : (i : ℕ) (o : OutputUse) → (is : slice_get program.outputs i ≡ Some o) → (output : IsOutput program o) → IsHere (value_at i o is output).0 (nth maps (value_at i o is output).0) kept_all
   output_here i o is output =
-      let n = output.value.0 in
-      let found = at_within program.initial n output.value.2 in
+      let value = value_at i o is output in
+      let n = value.0 in
+      let found = at_within program.initial n value.2 in
       let same : 0 + n ≡ n = omega arith in
-      let written_here : is_written program n ≡ true = any_at (λ output. is_initial n output.value) program.outputs i o is (ap (is_initial n) output.value.1 ∙ eq-eqb n n refl) in
+      let written_here : is_written program n ≡ true = any_at (λ output. is_initial n output.value) program.outputs i o is (ap (is_initial n) value.1 ∙ eq-eqb n n refl) in
       let op : IsOperation program (0 + n) found.0 = operation_at program 0 n program.initial found.0 formed.operations found.1 in
-      let on : found.0.kept ≡ true = op.kept ∙ (ap (is_written program) same ∙ written_here) in
+      let on : found.0.kept ≡ true = op.kept ∙ (ap (is_kept_map program) same ∙ or_right (is_read_in_steps program (is_initial n)) (is_written program n) written_here) in
       subst (λ k. IsHere k (nth maps k) kept_all) same (kept_at maps 0 n program.initial found.0 found.1 on)
 
   output_kept : (i : ℕ) (o : OutputUse) → slice_get program.outputs i ≡ Some o → IsOutput program o → IsKeptOutput places kept_all o
   output_kept i o is output =
-      let n = output.value.0 in
-      let found = at_within program.initial n output.value.2 in
+      let value = value_at i o is output in
+      let n = value.0 in
+      let found = at_within program.initial n value.2 in
       let here = output_here i o is output in
-      record { number = n; value = output.value.1; kept = here.has; count = ap length here.cells_are ∙ (done.each n found.0 output.value.2 found.1).count }
+      record { number = n; value = value.1; kept = here.has; count = ap length here.cells_are ∙ (done.each n found.0 value.2 found.1).count }
 
   output_written : (i : ℕ) (o : OutputUse) → slice_get program.outputs i ≡ Some o → IsOutput program o → written maps o ≡ kept_written kept_all o
   output_written i o is output =
+      let value = value_at i o is output in
       let here = output_here i o is output in
-      let same : initial_map maps o.value ≡ kept_of kept_all o.value = ap (initial_map maps) output.value.1 ∙ (sym here.cells_are ∙ ap (kept_of kept_all) (sym output.value.1)) in
+      let same : initial_map maps o.value ≡ kept_of kept_all o.value = ap (initial_map maps) value.1 ∙ (sym here.cells_are ∙ ap (kept_of kept_all) (sym value.1)) in
       let P : WholeMap → Written = λ cells. record { file = o.file; kind = o.cell_kind; cells = cells } in
       ap P same
 
@@ -147,12 +156,12 @@ module _ (program : Program) (places : ℕ) (maps : List WholeMap) (formed : IsW
 
 module _ (program : Program) (inputs : Inputs) where
   abbrev span_values : Result Done OverAt
-  span_values = operation_values program (scene_of (known_of inputs) 0) (whole_span program) (record { initial = [] }) program.initial
+  span_values = operation_values program (scene_of program.inputs (known_of inputs) 0) (whole_span program) nothing_done program.initial
 
   -- what the span gives is told of the values of its operations
   stage_told : stage_of program (whole_span program) (known_of inputs) ≡ told_of program (whole_span program) 0 span_values
   unfolding stage_of
-  stage_told = ap (λ ops. told_of program (whole_span program) 0 (operation_values program (scene_of (known_of inputs) 0) (whole_span program) (record { initial = [] }) ops)) (whole_range program.initial)
+  stage_told = ap (λ ops. told_of program (whole_span program) 0 (operation_values program (scene_of program.inputs (known_of inputs) 0) (whole_span program) nothing_done ops)) (whole_range program.initial)
 
   -- an end of the span is that of what the program reports
   stage_over : (e : ScriptEnd) → stage_result (stage_of program (whole_span program) (known_of inputs)) ≡ Err e → or_overflow (outputs_over program inputs) ≡ Err e
@@ -169,25 +178,15 @@ module _ (program : Program) (inputs : Inputs) where
   stage_stops (CutOff (WriteFault name)) s = absurd s
   stage_stops (CutOff NoMemory) s = tt
 
-  module _ (formed : IsWellFormed program) (known : AreInputMaps (inputs.frame.rows * inputs.frame.cols) program.inputs inputs.maps) (kept : List StepMap) (is : stage_result (stage_of program (whole_span program) (known_of inputs)) ≡ Ok kept) where
+  module _ (formed : IsWellFormed program) (stepless : HasNoSteps program) (knows : Knows program (whole_span program) (known_of inputs)) (kept : List StepMap) (is : stage_result (stage_of program (whole_span program) (known_of inputs)) ≡ Ok kept) where
     abbrev places : ℕ
     places = inputs.frame.rows * inputs.frame.cols
 
-    all_done : (done : Done) → span_values ≡ Ok done → AreDone program places (length program.initial) done.initial
+    all_done : (done : Done) → span_values ≡ Ok done → AreDone program.initial places (length program.initial) done.initial
     all_done done value =
         let same : 0 + length program.initial ≡ length program.initial = omega arith in
-        subst (λ n. AreDone program places n done.initial) same
-        (values_done program (scene_of (known_of inputs) 0) 0 (length program.initial) 0 (record { initial = [] }) done program.initial known (none_done program places) formed.operations (from_list 0 program.initial (λ k. let here : 0 + k ≡ k = omega arith in ap (slice_get program.initial) here)) value)
-      where
-        from_list : (n : ℕ) (operations : List Operation) → ((k : ℕ) → slice_get program.initial (n + k) ≡ slice_get operations k) → AreFrom program n operations
-        from_list n [] at = tt
-        from_list n (o ∷ more) at = (first, from_list (n + 1) more others)
-          where
-            first : slice_get program.initial n ≡ Some o
-            first = let here : n + 0 ≡ n = omega arith in subst (λ k. slice_get program.initial k ≡ Some o) here (at 0)
-
-            others : (k : ℕ) → slice_get program.initial (n + 1 + k) ≡ slice_get more k
-            others k = let here : n + suc k ≡ n + 1 + k = omega arith in subst (λ j. slice_get program.initial j ≡ slice_get more k) here (at (suc k))
+        let inputs_here = scene_inputs program (known_of inputs) 0 knows.maps knows.tables knows.series in
+        subst (λ n. AreDone program.initial places n done.initial) same (initial_done program (known_of inputs) formed inputs_here (length program.initial) done value)
 
     -- the kept maps are those of the operations
     kept_are : (done : Done) → span_values ≡ Ok done → kept_maps 0 done.initial 0 program.initial ≡ kept
@@ -214,7 +213,7 @@ module _ (program : Program) (inputs : Inputs) where
     stage_kept = by span_values refl
       where
         by : (v : Result Done OverAt) → span_values ≡ v → All (IsKeptOutput places kept) program.outputs
-        by (Ok done) value = subst (λ maps. All (IsKeptOutput places maps) program.outputs) (kept_are done value) (outputs_kept program places done.initial formed (all_done done value))
+        by (Ok done) value = subst (λ maps. All (IsKeptOutput places maps) program.outputs) (kept_are done value) (outputs_kept program places done.initial formed stepless (all_done done value))
         by (Err at) value = absurd (over_not at value)
 
     -- what the program reports is what its outputs write of the kept maps
@@ -222,5 +221,5 @@ module _ (program : Program) (inputs : Inputs) where
     stage_reports = by span_values refl
       where
         by : (v : Result Done OverAt) → span_values ≡ v → (v >>= λ done. Ok (map (written done.initial) program.outputs)) ≡ Ok (map (kept_written kept) program.outputs)
-        by (Ok done) value = ap Ok (outputs_written program places done.initial formed (all_done done value) ∙ ap (λ maps. map (kept_written maps) program.outputs) (kept_are done value))
+        by (Ok done) value = ap Ok (outputs_written program places done.initial formed stepless (all_done done value) ∙ ap (λ maps. map (kept_written maps) program.outputs) (kept_are done value))
         by (Err at) value = absurd (over_not at value)

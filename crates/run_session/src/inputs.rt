@@ -7,9 +7,8 @@ ghost use Rattle.grid_text.specs.Form.{IsSize};
 ghost use Rattle.grid_text.specs.Written.{AreGridValues};
 ghost use Rattle.map_meaning.specs.Maps.{IsMapOf};
 ghost use Rattle.map_meaning.specs.Programs.{IsWellFormed};
-ghost use Rattle.map_meaning.specs.Spans.{AreInputMaps};
 ghost use Rattle.run_session.specs.Course.{grid_run, input_run, inputs_run, map_run, numbered_input, one_more_map, or_input, or_size};
-ghost use Rattle.run_session.specs.inside.Parts.{AddsMap, AreInputsOf, GivesEnd, HasAreaMap, IsInputEnd, Makes, as_grid};
+ghost use Rattle.run_session.specs.inside.Parts.{AddsMap, AreInputsOf, AreMapsOf, GivesEnd, HasAreaMap, IsInputEnd, Makes, as_grid};
 
 use crate::ends::{InputKind, Stop};
 use crate::files::fetch;
@@ -174,7 +173,7 @@ fn read_maps<F: Folder>(
 ) -> Result<Items<Map>, Stop>
     requires { HasAreaMap (area.now.frame.rows * area.now.frame.cols) number inputs.now area.now.cells }
     ensures meets { Makes (in_turn (one_more_map number (as_grid area.now)) [] inputs.now) (F.state folder.old) (F.state folder.new) result }
-    ensures maps { IfOk result (AreInputMaps (area.now.frame.rows * area.now.frame.cols) inputs.now) }
+    ensures maps { IfOk result (AreMapsOf (area.now.frame.rows * area.now.frame.cols) inputs.now) }
 {
     let mut maps = Items::new(alloc);
     for input in inputs {

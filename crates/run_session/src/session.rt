@@ -5,7 +5,7 @@ ghost use Rattle.map_meaning.specs.Programs.{IsWellFormed};
 ghost use Rattle.run_session.specs.Asked.{CountsTasks, IfDone, WasAsked};
 ghost use Rattle.run_session.specs.Course.{Many, script_run, start_run, whole_run};
 ghost use Rattle.run_session.specs.Ends.{session_outcome, why};
-ghost use Rattle.run_session.specs.inside.Parts.{AreInputsOf, Makes, WasRun, outputs_over, stop_outcome, tally_of};
+ghost use Rattle.run_session.specs.inside.Parts.{AreInputsOf, HasNoSteps, Makes, WasRun, outputs_over, stop_outcome, tally_of};
 
 use crate::ends::{SessionEnd, Stop, Tally};
 use crate::evaluating::{admitted, evaluate};
@@ -38,6 +38,7 @@ fn run_start<F: Folder, R: BlockRunner>(
 ) -> Result<Tally, Stop>
     requires ready { R.ready runner.old }
     requires program { IsWellFormed program.now.value }
+    requires start { HasNoSteps program.now.value }
     requires inputs { AreInputsOf program.now.value.inputs inputs }
     ensures meets { Makes
         (start_run (R.admits runner.old program.now.value inputs.frame.rows inputs.frame.cols) (outputs_over program.now.value inputs) program.now.value.steps inputs.frame)
@@ -51,7 +52,11 @@ fn run_start<F: Folder, R: BlockRunner>(
         rows: frame.rows,
         cols: frame.cols,
         maps,
+        tables: Items::new(alloc),
+        series: Items::new(alloc),
+        stacks: Items::new(alloc),
         initial: Items::new(alloc),
+        last: Items::new(alloc),
     };
     let kept = evaluate(alloc, runner, program, known)?;
     let outputs = program.outputs.as_slice();

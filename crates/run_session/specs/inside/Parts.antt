@@ -16,11 +16,13 @@ use Rattle.map_meaning.specs.declared.known.StageEnd.{StageEnd}
 use Rattle.map_meaning.specs.declared.known.StepMap.{StepMap}
 use Rattle.map_meaning.specs.declared.program.InputUse.{InputUse}
 use Rattle.map_meaning.specs.declared.program.Operand.{Operand}
-use Rattle.map_meaning.specs.declared.program.Operand.TheVariants.{Unused, Literal, Input, Initial}
+use Rattle.map_meaning.specs.declared.program.Operand.TheVariants.{Initial}
+use Rattle.map_meaning.specs.declared.program.OutputKind.TheVariants.{InitialGrid}
 use Rattle.map_meaning.specs.declared.program.OutputUse.{OutputUse}
 use Rattle.map_meaning.specs.declared.program.Program.{Program}
+use Rattle.map_meaning.specs.declared.program.Role.TheVariants.{Grid as IsGrid}
 use Rattle.map_meaning.specs.Maps.{WholeMap, IsMapOf}
-use Rattle.map_meaning.specs.Spans.{AreInputMaps, RunOf, kept_map, scene_of, whole_span}
+use Rattle.map_meaning.specs.Spans.{RunOf, kept_map, scene_of, whole_span}
 use Rattle.script_types.specs.Answers.{IsLowered}
 use Rattle.script_types.specs.Values.{Written, program_reports}
 use Rattle.run_session.specs.declared.ends.InputKind.{InputKind}
@@ -86,10 +88,32 @@ AddsMap places kind old new = (m : WholeMap) × (new ≡ old ++ m ∷ []) × IsM
 abbrev pub HasAreaMap : ℕ → ℕ → List InputUse → WholeMap → Type 0
 HasAreaMap places number list cells = IfSome (slice_get list number) (λ input. IsMapOf places input.kind cells)
 
+-- the maps are those of these inputs: of so many cells, and each of its input's kind
+abbrev pub AreMapsOf : ℕ → List InputUse → List WholeMap → Type 0
+AreMapsOf places [] [] = ⊤
+AreMapsOf places [] (m ∷ maps) = ⊥
+AreMapsOf places (input ∷ inputs) [] = ⊥
+AreMapsOf places (input ∷ inputs) (m ∷ maps) = IsMapOf places input.kind m × AreMapsOf places inputs maps
+
+-- all of these inputs are grids
+abbrev pub AreGrids : List InputUse → Type 0
+AreGrids [] = ⊤
+AreGrids (input ∷ inputs) = (input.role ≡ IsGrid) × AreGrids inputs
+
+-- all of these outputs are grids of `initial`
+abbrev pub AreInitialGrids : List OutputUse → Type 0
+AreInitialGrids [] = ⊤
+AreInitialGrids (output ∷ outputs) = (output.kind ≡ InitialGrid) × AreInitialGrids outputs
+
+-- the program has no steps: its inputs are grids, and so are its outputs
+pub record HasNoSteps (program : Program) : Type 0 where
+  pub inputs : AreGrids program.inputs
+  pub outputs : AreInitialGrids program.outputs
+
 -- the maps of these inputs, of a size that is within the limits
 pub record AreInputsOf (list : List InputUse) (inputs : Inputs) : Type 0 where
   pub size : IsSize inputs.frame.rows inputs.frame.cols
-  pub maps : AreInputMaps (inputs.frame.rows * inputs.frame.cols) list inputs.maps
+  pub maps : AreMapsOf (inputs.frame.rows * inputs.frame.cols) list inputs.maps
 
 -- ---- what is read
 
@@ -117,10 +141,8 @@ stage_result end = or_overflow (kept_or_over end.maps end.over)
 
 -- the kept map of an operand that names an operation of `initial`
 abbrev pub kept_of : List StepMap → Operand → WholeMap
-kept_of maps Unused = []
-kept_of maps (Literal kind cell) = []
-kept_of maps (Input n) = []
 kept_of maps (Initial n) = kept_map maps n
+kept_of maps _ = []
 
 -- what an output writes, from the kept maps
 abbrev pub kept_written : List StepMap → OutputUse → Written
@@ -144,7 +166,7 @@ pub record IsKeptOutput (places : ℕ) (maps : List StepMap) (output : OutputUse
 
 -- what the outputs of a program write, by its operations
 abbrev pub outputs_over : Program → Inputs → Result (List Written) OverAt
-outputs_over program inputs = program_reports program (scene_of (known_of inputs) 0)
+outputs_over program inputs = program_reports program (scene_of program.inputs (known_of inputs) 0)
 
 -- the runner was asked for this program over these inputs, and for nothing else
 abbrev pub WasRun : (List RunOf → Type 0) → Program → Inputs → Type 0

@@ -12,10 +12,10 @@ use Rattle.map_meaning.specs.declared.program.Program.{Program}
 use Rattle.map_meaning.specs.Evaluation.{Done, nothing_done, operation_part, operation_values}
 use Rattle.map_meaning.specs.Laws.{IsWholeMap, operations_at}
 use Rattle.map_meaning.specs.Maps.{IsMapOf, WholeMap}
-use Rattle.map_meaning.specs.Programs.{IsBelow, IsOperation, IsStepOperation, IsWellFormed, is_kept_map}
+use Rattle.map_meaning.specs.Programs.{IsStepOperation, IsWellFormed}
 use Rattle.map_meaning.specs.Scenes.{Scene}
 use Rattle.map_meaning.specs.Spans.{AreSteps, Knows, done_before, done_next, kept_map, kept_maps, scene_of, stage_of, told_of, told_steps, told_then}
-use Rattle.map_meaning.proofs.WholeMaps.{AreDone, AreFrom, HasInputs, HasStacksAt, IsDoneNow, IsReadNow, from_list, kept_whole, map_whole, none_done, one_more_done, operation_of, read_now, scene_inputs, sound_initial, sound_now, step_operation_of, values_hold}
+use Rattle.map_meaning.proofs.WholeMaps.{AreDone, AreFrom, HasInputs, HasStacksAt, IsDoneNow, IsReadNow, from_list, initial_done, kept_whole, map_whole, none_done, one_more_done, read_now, scene_inputs, sound_now, step_operation_of, values_hold}
 use Rattle.map_meaning.proofs.Tabulated.{nth_tabulate}
 use Rattle.map_meaning.proofs.laws.spans_give_whole_maps.Goals as goal
 
@@ -37,26 +37,13 @@ module _ (program : Program) (known : Known) (formed : IsWellFormed program) whe
     abbrev scene : Scene
     scene = scene_of program.inputs known 0
 
-    abbrev Holds : ℕ → Done → Type 0
-    Holds n done = AreDone program.initial places n done.initial
-
-    initial_whole : (n : ℕ) (done : Done) (o : Operation) → Holds n done → slice_get program.initial n ≡ Some o → IsMapOf places o.kind (operation_part program scene done o).cells
-    initial_whole n done o all is =
-        let within : n < length program.initial = slice_get_within program.initial n o is in
-        let here : 0 + n ≡ n = omega arith in
-        let formed_o = subst (λ j. IsOperation program j o) here (operation_of program 0 n program.initial o formed.operations is) in
-        map_whole program scene done inputs (IsBelow program n) (sound_initial program scene done inputs n (omega arith) all) o (is_kept_map program n) formed_o
-
-    initial_next : (n : ℕ) (done : Done) (o : Operation) (m : WholeMap) → Holds n done → slice_get program.initial n ≡ Some o → IsMapOf places o.kind m → AreDone program.initial places (n + 1) (done.initial ++ m ∷ [])
-    initial_next n done o m all is whole = one_more_done program.initial places n done.initial o m all is whole
-
     -- the maps that are told are whole
     told_whole : (operations : List Operation) (r : Result Done OverAt) → operations ≡ program.initial → operation_values program scene (span.Initial 0 end) nothing_done operations ≡ r →
         slice_range program.initial 0 end ≡ program.initial → All (IsWholeMap program places) (told_of program (span.Initial 0 end) 0 r).maps
     told_whole operations (Err at) same is range = All-nil (IsWholeMap program places)
     told_whole operations (Ok done) same is range =
         let gives : operation_values program scene (span.Initial 0 end) nothing_done program.initial ≡ Ok done = ap (operation_values program scene (span.Initial 0 end) nothing_done) (sym same) ∙ is in
-        let all : AreDone program.initial places (0 + length program.initial) done.initial = values_hold program scene (span.Initial 0 end) program.initial Holds initial_whole initial_next 0 nothing_done done program.initial (none_done program.initial places) (all_from program.initial) gives in
+        let all : AreDone program.initial places (0 + length program.initial) done.initial = initial_done program known formed inputs end done gives in
         let P : List Operation → Type 0 = λ ops. All (IsWholeMap program places) (kept_maps 0 done.initial 0 ops) in
         subst P (sym range) (kept_whole program places 0 0 (0 + length program.initial) done.initial program.initial all (omega arith) (all_from program.initial))
 

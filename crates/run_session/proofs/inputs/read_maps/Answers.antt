@@ -4,11 +4,10 @@ use Rattle.outside_io.specs.Runs.{in_turn}
 use Rattle.outside_io.proofs.Callers.{meets_out, item_on, item_stop, item_done}
 use Rattle.map_meaning.specs.Maps.{WholeMap}
 use Rattle.map_meaning.specs.declared.program.InputUse.{InputUse}
-use Rattle.map_meaning.specs.Spans.{AreInputMaps}
 use Rattle.run_session.specs.Course.{one_more_map}
 use Rattle.run_session.specs.Ends.{why}
 use Rattle.run_session.specs.inside.Parts.{stop_outcome}
-use Rattle.run_session.specs.inside.Parts.{as_grid}
+use Rattle.run_session.specs.inside.Parts.{AreMapsOf, as_grid}
 use Rattle.run_session.proofs.Lists.{maps_more, one_more, taken_here}
 use Rattle.run_session.proofs.inputs.read_maps.Goals as goal
 
@@ -27,8 +26,8 @@ loop-input-preserved g c =
     let places = c.args.area.now.frame.rows * c.args.area.now.frame.cols in
     let i = c.loop-input.input-index in
     let adds = c.in_ok-read_map.ensures.maps in
-    let P : List InputUse → Type 0 = λ list. AreInputMaps places list c.read_map.new.maps in
-    let Q : List WholeMap → Type 0 = λ maps. AreInputMaps places (take i inputs ++ c.input-item.result ∷ []) maps in
+    let P : List InputUse → Type 0 = λ list. AreMapsOf places list c.read_map.new.maps in
+    let Q : List WholeMap → Type 0 = λ maps. AreMapsOf places (take i inputs ++ c.input-item.result ∷ []) maps in
     record {
       leads = item_on why part whole _ inputs i c.loop-input.maps _ _ c.input-item.result c.read_map.new.maps c.loop-input-test.true c.input-item.is c.loop-input.invariant.leads c.in_ok-read_map.ensures.meets;
       maps = subst P (sym (taken_here inputs i c.input-item.result c.loop-input-test.true c.input-item.is)) (subst Q (sym adds.1) (maps_more places (take i inputs) c.loop-input.maps c.input-item.result adds.0 c.loop-input.invariant.maps adds.2));

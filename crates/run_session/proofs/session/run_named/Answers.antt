@@ -11,6 +11,7 @@ use Rattle.run_session.specs.Course.{load_run, loaded_run, whole_run}
 use Rattle.run_session.specs.Ends.{ScriptEnd, why}
 use Rattle.run_session.specs.inside.Parts.{stop_outcome}
 use Rattle.run_session.proofs.Rest.{asked_same, start_same}
+use Rattle.run_session.proofs.NoSteps.{no_steps}
 use Rattle.run_session.proofs.session.run_named.Goals as goal
 
 pub returns-in_err-program-clause-meets : goal.returns-in_err-program-clause-meets
@@ -48,3 +49,6 @@ run_start-requires-clause-inputs g c = c.in_ok-program.ensures.1.maps
 
 pub run_start-requires-clause-program : goal.run_start-requires-clause-program
 run_start-requires-clause-program g c = c.in_ok-program.ensures.1.program.lowered.formed
+
+pub run_start-requires-clause-start : goal.run_start-requires-clause-start
+run_start-requires-clause-start g c = no_steps c.in_ok-program.ensures.0.script c.in_ok-program.field-0.program.value c.in_ok-program.ensures.1.program.lowered
