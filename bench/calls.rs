@@ -1,5 +1,5 @@
 //! The calls of `crates/timed_calls` in stock Rust: the same loops over the same 16-byte cells, the best of as many rounds.
-//! It prints the lines that `timed_calls` prints for `cells`, `maps`, `tiles`, `table` and `turns`.
+//! It prints the lines that `timed_calls` prints for `cells`, `maps`, `tiles`, `table`, `turns` and `drains`.
 
 use std::env;
 use std::hint::black_box;
@@ -198,6 +198,101 @@ fn time_turns() {
     println!("turn {best} {number}");
 }
 
+const LAST: usize = SIDE - 1;
+fn made_code(row: usize, col: usize, drawn: u64) -> Cell {
+    Val(match drawn % 4 {
+        0 if row < LAST && 0 < col => 1,
+        1 if row < LAST => 2,
+        2 if row < LAST && col < LAST => 3,
+        3 if col < LAST => 6,
+        _ => 5,
+    })
+}
+fn spiral_code(row: usize, col: usize) -> Cell {
+    let ring = row.min(col).min(LAST - row).min(LAST - col);
+    let last = LAST - ring;
+    Val(if row == ring && col < last { 6 } else if col == last && row < last { 2 } else if row == last && col > ring { 4 }
+        else if row > ring + 1 { 8 } else if ring + 1 < SIDE / 2 { 6 } else { 5 })
+}
+fn drain_codes(made: bool) -> Vec<Cell> {
+    let mut number = 7u64;
+    (0..SIDE * SIDE).map(|p| {
+        number = number.wrapping_mul(6364136223846793005).wrapping_add(1442695040888963407);
+        if made { made_code(p / SIDE, p % SIDE, number >> 32) } else { spiral_code(p / SIDE, p % SIDE) }
+    }).collect()
+}
+enum Next {
+    Pit,
+    Cell(usize),
+    Outside,
+    Missing,
+}
+fn next_cell(codes: &[Cell], p: usize) -> Next {
+    match codes[p] {
+        Mv => Next::Missing,
+        Val(5) => Next::Pit,
+        Val(k) => {
+            let (r, c) = ((p / SIDE) as i64, (p % SIDE) as i64);
+            let (r, c) = (r + 1 - (k - 1) / 3, c + (k - 1) % 3 - 1);
+            if 0 <= r && r < SIDE as i64 && 0 <= c && c < SIDE as i64 { Next::Cell(r as usize * SIDE + c as usize) } else { Next::Outside }
+        }
+    }
+}
+// a queue from the cells without tributaries: counts of feeding cells, and passing on
+#[inline(never)]
+fn check(codes: &[Cell]) -> bool {
+    let n = codes.len();
+    let mut count = vec![0u8; n];
+    let mut cells = 0usize;
+    for p in 0..n { match next_cell(codes, p) { Next::Cell(d) => { if let Mv = codes[d] { return false; } count[d] += 1; cells += 1 } Next::Pit => cells += 1, Next::Outside => return false, Next::Missing => {} } }
+    let mut queue: Vec<u32> = (0..n as u32).filter(|p| count[*p as usize] == 0 && codes[*p as usize] != Mv).collect();
+    let mut at = 0;
+    while at < queue.len() {
+        if let Next::Cell(d) = next_cell(codes, queue[at] as usize) { count[d] -= 1; if count[d] == 0 { queue.push(d as u32) } }
+        at += 1;
+    }
+    queue.len() == cells
+}
+#[inline(never)]
+fn accuflux(codes: &[Cell], a: i64) -> (Vec<Cell>, Option<u32>) {
+    let n = codes.len();
+    let mut count = vec![0u8; n];
+    for p in 0..n { if let Next::Cell(d) = next_cell(codes, p) { count[d] += 1 } }
+    let mut sums: Vec<Option<i128>> = vec![Some(0); n];
+    let mut out = vec![Mv; n];
+    let mut over: Option<u32> = None;
+    let mut queue: Vec<u32> = (0..n as u32).filter(|p| count[*p as usize] == 0 && codes[*p as usize] != Mv).collect();
+    let mut at = 0;
+    while at < queue.len() {
+        let p = queue[at] as usize;
+        let total = sums[p].map(|s| s + a as i128);
+        out[p] = match total { None => Mv, Some(t) if -(MOST as i128) <= t && t <= MOST as i128 => Val(t as i64), Some(_) => { over = Some(over.map_or(p as u32, |o| o.min(p as u32))); Mv } };
+        if let Next::Cell(d) = next_cell(codes, p) {
+            sums[d] = match (sums[d], total) { (Some(x), Some(y)) => Some(x + y), _ => None };
+            count[d] -= 1; if count[d] == 0 { queue.push(d as u32) }
+        }
+        at += 1;
+    }
+    (out, over)
+}
+fn time_drains() {
+    for (name, made) in [("made", true), ("spiral", false)] {
+        let (mut checked, mut flowed, mut sum) = (u128::MAX, u128::MAX, 0i64);
+        for _ in 0..5 {
+            let codes = drain_codes(made);
+            let start = Instant::now();
+            assert!(black_box(check(&codes)));
+            checked = checked.min(start.elapsed().as_nanos());
+            let start = Instant::now();
+            let (out, _) = accuflux(&codes, 1);
+            sum = out.iter().fold(0i64, |t, x| if let Val(v) = x { t.wrapping_add(*v) } else { t });
+            flowed = flowed.min(start.elapsed().as_nanos());
+        }
+        println!("{name}_check {checked} {sum}");
+        println!("{name}_accuflux {flowed} {sum}");
+    }
+}
+
 fn main() {
     match env::args().nth(1).as_deref() {
         Some("cells") => time_cells(100_000, 200),
@@ -205,6 +300,7 @@ fn main() {
         Some("tiles") => time_tiles(),
         Some("table") => time_table(),
         Some("turns") => time_turns(),
-        _ => println!("tiles | cells | maps | table | turns"),
+        Some("drains") => time_drains(),
+        _ => println!("tiles | cells | maps | table | turns | drains"),
     }
 }

@@ -1,13 +1,15 @@
-//! Times calls that no script reaches yet, for `make bench`: `tiles`, `cells`, `maps`, `table` or `turns`. Without a word it says these.
+//! Times calls that no script reaches yet, for `make bench`: `tiles`, `cells`, `maps`, `table`, `turns` or `drains`. Without a word it says these.
 #![tactic(auto)]
 
 mod best;
 mod cells;
+mod drains;
 mod table;
 mod tiles;
 mod turns;
 
 use cells::time_cells;
+use drains::time_drains;
 use std::env;
 use std::rt::{Clock, Env};
 use std::sync::Wait;
@@ -25,11 +27,12 @@ fn run<R: Clock + Env + Print + AllocGlobal + Wait>(rt: &R) -> Result<(), Fail> 
             b"maps" => time_cells(rt, 2048 * 2048, 5)?,
             b"table" => time_table(rt)?,
             b"turns" => time_turns(rt)?,
-            _ => println!(rt; "tiles | cells | maps | table | turns")?,
+            b"drains" => time_drains(rt)?,
+            _ => println!(rt; "tiles | cells | maps | table | turns | drains")?,
         }
         return Ok(());
     }
-    println!(rt; "tiles | cells | maps | table | turns")?;
+    println!(rt; "tiles | cells | maps | table | turns | drains")?;
     Ok(())
 }
 
