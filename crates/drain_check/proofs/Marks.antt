@@ -1,5 +1,5 @@
 -- How a walk's marks, trail and order change.
-use Rattle.std.proofs.Common.{◌≡◌, ◌≢◌, ◌⊎◌, inl, inr, ℕ, ◌+◌, ◌<◌, ◌≤◌, List, [], ◌∷◌, ◌++◌, length, refl, sym, ap, subst, ◌∙◌, arith, suc, zero, get_or, get_or-set_same, get_or-set_other, length-append}
+use Rattle.std.proofs.Common.{◌≡◌, ◌≢◌, ◌⊎◌, inl, inr, ℕ, ◌+◌, ◌<◌, List, [], ◌∷◌, ◌++◌, length, refl, sym, ap, subst, ◌∙◌, arith, suc, zero, get_or, get_or-set_same, get_or-set_other, length-append}
 use Rattle.std.proofs.Math.ListN.{set, length-set}
 use Rattle.std.proofs.lemmas.Bool.{cases_eq, cases_lt}
 use Rattle.std.proofs.lemmas.List.{get_or_push, get_or_past, get_or_append_left}
@@ -9,11 +9,11 @@ use Rattle.drain_meaning.specs.declared.next.Next.TheVariants as next
 use Rattle.drain_meaning.specs.Drains.{DrainMap, next_at}
 use Rattle.drain_meaning.specs.Orders.{IsDrainOrder}
 use Rattle.drain_meaning.specs.Paths.{HasPath, IsSound}
-use Rattle.drain_meaning.specs.inside.Ways.{IsWay, Reaches}
+use Rattle.drain_meaning.specs.inside.Ways.{Reaches}
 use Rattle.drain_meaning.proofs.Callers.{directed_within, no_cycle, path_down, path_leaves, path_of_pit, path_up, way_back, way_from, way_step}
 use Rattle.drain_check.specs.declared.walk.Mark.{Mark}
 use Rattle.drain_check.specs.declared.walk.Mark.TheVariants.{Unseen, Walked, Done}
-use Rattle.drain_check.specs.inside.Walks.{mark_at, IsTrail, Ordered, Underway, IsAtRest, Keeps, Arrived, CameDown, Returning}
+use Rattle.drain_check.specs.inside.Walks.{mark_at, IsTrail, Ordered, Underway, IsAtRest, Keeps, Arrived, Returning}
 
 -- a trail that goes one step on
 pub trail_step : (drains : DrainMap) (trail : List ℕ) (at d : ℕ) → IsTrail drains trail at → next_at drains at ≡ next.Cell d → IsTrail drains (trail ++ at ∷ []) d

@@ -1,28 +1,27 @@
 -- The values of accuflux and catchment, by paths.
-use Rattle.std.proofs.Common.{◌≡◌, ◌≢◌, ◌⊎◌, inl, inr, ℕ, ◌+◌, ◌-◌, ◌<◌, ◌≤◌, List, [], ◌∷◌, length, map, refl, sym, ap, subst, ◌∙◌, arith, suc, zero, Bool, true, false, get_or}
+use Rattle.std.proofs.Common.{◌≡◌, ◌≢◌, inl, inr, ℕ, ◌+◌, ◌<◌, ◌≤◌, List, [], ◌∷◌, length, map, refl, sym, ap, subst, ◌∙◌, arith, suc, zero, Bool, true, false}
 use Rattle.std.specs.Prelude.{◌||◌, ◌==◌}
-use Rattle.std.specs.List.{Contains, filter, list_any, range_with_len}
-use Rattle.std.proofs.lemmas.Bool.{eqb-true, eq-eqb, cases_eq}
+use Rattle.std.specs.List.{Contains, filter, range_with_len}
+use Rattle.std.proofs.lemmas.Bool.{eqb-true, eq-eqb}
 use Rattle.std.proofs.lemmas.Bool.Decides.{eqb_tells}
 use Rattle.std.proofs.lemmas.List.FromFn.{length-range_with_len, get_or-range_with_len}
 use Rattle.cell_values.specs.declared.cell.Cell.{Cell}
-use Rattle.drain_meaning.specs.declared.end.FlowEnd.{FlowEnd}
 use Rattle.drain_meaning.specs.declared.flow.Flow.{Flow}
 use Rattle.drain_meaning.specs.declared.next.Next.{Next}
 use Rattle.drain_meaning.specs.declared.next.Next.TheVariants as next
 use Rattle.drain_meaning.specs.declared.op.FlowOp.TheVariants as op
-use Rattle.drain_meaning.specs.Accumulation.{accuflux_of, catchment_of, holds_place, is_pit, last_point, upstream_area}
+use Rattle.drain_meaning.specs.Accumulation.{accuflux_of, catchment_of, holds_place, is_pit, last_point}
 use Rattle.drain_meaning.specs.Drains.{DrainMap, next_at}
 use Rattle.drain_meaning.specs.Equations.{equation_of, farthest, passing, transport_of}
 use Rattle.drain_meaning.specs.Flows.{material, nothing, together, total_flow}
 use Rattle.drain_meaning.specs.Masks.{leads_on}
-use Rattle.drain_meaning.specs.Paths.{HasPath, IsDirected, IsFollowedBy, IsSound, behind_next, first_of_path, path_of}
-use Rattle.drain_meaning.specs.Transports.{AreEnds, drains_into, end_of, feeders, outlet, tributaries}
-use Rattle.drain_meaning.specs.inside.SumLaws.{together_regroup, together_swap, together_unit}
+use Rattle.drain_meaning.specs.Paths.{IsDirected, IsFollowedBy, IsSound, behind_next, first_of_path, path_of}
+use Rattle.drain_meaning.specs.Transports.{drains_into, end_of, feeders, outlet, tributaries}
+use Rattle.drain_meaning.specs.inside.SumLaws.{together_swap, together_unit}
 use Rattle.drain_meaning.proofs.EndLemmas.{ends_unique}
 use Rattle.drain_meaning.proofs.MapLemmas.{cases_directed, directed_within}
-use Rattle.drain_meaning.proofs.PathLemmas.{next_directed, not_follower, path_of-is}
-use Rattle.drain_meaning.proofs.SumLemmas.{contains_cases, contains_first, contains_later, if_so, if_so-either, if_so-together, if_so-total, map_alike, total-filter, total-nothing, total-swap, total-together}
+use Rattle.drain_meaning.proofs.PathLemmas.{not_follower, path_of-is}
+use Rattle.drain_meaning.proofs.SumLemmas.{contains_first, contains_later, if_so, if_so-either, if_so-together, if_so-total, map_alike, total-filter, total-nothing, total-swap, total-together}
 
 -- ---- the farthest point of a path
 

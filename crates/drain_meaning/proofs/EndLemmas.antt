@@ -1,7 +1,6 @@
 -- The ends of a transport on a sound map.
-use Rattle.std.proofs.Common.{◌≡◌, ◌≢◌, ◌⊎◌, inl, inr, ℕ, ◌+◌, ◌-◌, ◌<◌, ◌≤◌, List, [], ◌∷◌, length, map, refl, sym, ap, subst, ◌∙◌, arith, suc, zero, Bool, true, false}
+use Rattle.std.proofs.Common.{◌≡◌, ◌⊎◌, inl, inr, ℕ, ◌-◌, ◌<◌, ◌≤◌, List, [], ◌∷◌, length, refl, sym, ap, ◌∙◌, arith, suc, zero, false}
 use Rattle.std.specs.List.{Contains, range_with_len}
-use Rattle.std.proofs.lemmas.Bool.{eqb-true, eq-eqb}
 use Rattle.std.proofs.lemmas.Bool.Decides.{eqb_tells}
 use Rattle.cell_values.specs.declared.cell.Cell.{Cell}
 use Rattle.drain_meaning.specs.declared.end.FlowEnd.{FlowEnd}
@@ -11,9 +10,9 @@ use Rattle.drain_meaning.specs.declared.next.Next.TheVariants as next
 use Rattle.drain_meaning.specs.declared.op.Orient.{Orient}
 use Rattle.drain_meaning.specs.declared.op.Orient.TheVariants.{Down, Up}
 use Rattle.drain_meaning.specs.Drains.{DrainMap, next_at}
-use Rattle.drain_meaning.specs.Paths.{HasPath, IsDirected, IsSound, path_of}
+use Rattle.drain_meaning.specs.Paths.{IsDirected, IsSound, path_of}
 use Rattle.drain_meaning.specs.Transports.{AreEnds, Transport, drains_into, end_after, end_of, feeders, outlet, tributaries}
-use Rattle.drain_meaning.proofs.PathLemmas.{next_directed, path_of-is, path_short, path_up}
+use Rattle.drain_meaning.proofs.PathLemmas.{next_directed, path_of-is, path_short}
 use Rattle.drain_meaning.proofs.SumLemmas.{contains_cases, kept_passes, map_alike}
 
 -- A test that says that a cell drains into c is right.

@@ -1,5 +1,5 @@
 -- What the values of transports are, in words of paths.
-use Rattle.std.specs.Prelude.{◌≡◌, ℕ, List, [], ◌∷◌, map, length, Bool, true, false, ◌==◌}
+use Rattle.std.specs.Prelude.{ℕ, List, [], ◌∷◌, map, length, Bool, true, false, ◌==◌}
 use Rattle.std.specs.List.{filter, range_with_len, list_any}
 use Rattle.cell_values.specs.declared.cell.Cell.{Cell}
 use Rattle.drain_meaning.specs.declared.flow.Flow.{Flow}

@@ -1,5 +1,5 @@
 -- The equation of each transport.
-use Rattle.std.specs.Prelude.{ℤ, pos, ◌-ℤ◌, int_lt, Bool, List, if◌then◌else◌}
+use Rattle.std.specs.Prelude.{pos, ◌-ℤ◌, int_lt, Bool, List, if◌then◌else◌}
 use Rattle.std.specs.Ordering.{int_eq}
 use Rattle.cell_values.specs.declared.cell.Cell.{Cell}
 use Rattle.drain_meaning.specs.declared.end.FlowEnd.{FlowEnd}

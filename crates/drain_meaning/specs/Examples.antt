@@ -6,7 +6,7 @@ use Rattle.cell_values.specs.declared.kind.Kind.TheVariants.{Nominal, Scalar}
 use Rattle.cell_values.specs.declared.cell.Cell.{Cell}
 use Rattle.cell_values.specs.declared.cell.Cell.TheVariants.{Mv, Val}
 use Rattle.tile_map.specs.Cuts.{cell_at}
-use Rattle.tile_map.specs.Parts.{Outcome, part_of}
+use Rattle.tile_map.specs.Parts.{part_of}
 use Rattle.tile_map.specs.declared.part.Part.{Part}
 use Rattle.drain_meaning.specs.declared.flow.Flow.{Flow}
 use Rattle.drain_meaning.specs.declared.flow.Flow.TheVariants as flow

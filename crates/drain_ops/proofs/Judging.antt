@@ -1,44 +1,25 @@
 -- The least place whose result is out of range, and the part that a walk leaves.
-use Rattle.std.proofs.Common.{◌≡◌, ◌≢◌, ◌⊎◌, inl, inr, ℕ, ◌+◌, ◌-◌, ◌<◌, ◌≤◌, List, [], ◌∷◌, ◌++◌, length, map, refl, sym, ap, subst, ◌∙◌, arith, suc, zero, get_or, get_or-set_same, get_or-set_other, Bool, true, false, cond, drop, length-drop, length-append}
-use Rattle.std.specs.Prelude.{◌==◌, if◌then◌else◌, Option, Some, None, Ok, Err}
-use Rattle.std.specs.List.{Contains, IsDistinct, AllByRecursion, filter, range_with_len}
-use Rattle.std.proofs.Math.Dec.{eqb}
-use Rattle.std.proofs.Math.ListN.{set, length-set}
-use Rattle.std.proofs.Math.Seq.{drop-cons}
-use Rattle.std.proofs.lemmas.Bool.{cases_eq, cases_lt, eq-eqb, eqb-true}
-use Rattle.std.proofs.lemmas.Bool.Decides.{eqb_tells}
-use Rattle.std.proofs.lemmas.List.{get_or-drop, get_or_default, get_or_past, get_or_read}
-use Rattle.std.proofs.lemmas.List.FromFn.{get_or-range_with_len, length-range_with_len}
-use Rattle.std.proofs.lemmas.Map.Steps.{length-le_from_distinct_below}
-use Rattle.std.proofs.lemmas.Map.Views.{Contains-from_any}
-use Rattle.text_base.specs.Limits.{most_cells}
+use Rattle.std.proofs.Common.{◌≡◌, ◌⊎◌, inl, inr, ℕ, ◌<◌, ◌≤◌, List, length, refl, sym, ap, subst, ◌∙◌, arith, Bool, true, false}
+use Rattle.std.specs.Prelude.{if◌then◌else◌, Option, Some, None, Ok, Err}
 use Rattle.cell_values.specs.declared.cell.Cell.{Cell}
 use Rattle.cell_values.specs.declared.cell.Cell.TheVariants as cell
-use Rattle.cell_values.specs.declared.kind.Kind.TheVariants.{Scalar}
-use Rattle.cell_values.specs.Kinds.{IsCell}
 use Rattle.tile_map.specs.Cuts.{cell_at}
-use Rattle.drain_meaning.specs.declared.end.FlowEnd.{FlowEnd}
 use Rattle.drain_meaning.specs.declared.flow.Flow.{Flow}
 use Rattle.drain_meaning.specs.declared.next.Next.{Next}
 use Rattle.drain_meaning.specs.declared.next.Next.TheVariants as next
-use Rattle.drain_meaning.specs.declared.op.Orient.{Orient}
-use Rattle.drain_meaning.specs.declared.op.Orient.TheVariants.{Down, Up}
 use Rattle.drain_meaning.specs.Drains.{DrainMap, next_at}
-use Rattle.drain_meaning.specs.Flows.{FlowFits}
-use Rattle.drain_meaning.specs.Orders.{IsDrainOrder}
 use Rattle.drain_meaning.specs.Paths.{IsDirected}
-use Rattle.drain_meaning.specs.Rules.{Accumulator, RuleLaws, joined_all}
-use Rattle.drain_meaning.specs.Transports.{AreEnds, Transport, drains_into, feeders, tributaries}
-use Rattle.drain_meaning.proofs.Callers.{contains_cases, contains_first, contains_later, directed_within, drains_tells, map_alike}
-use Rattle.std.specs.Prelude.{nat_lt, IsOk, IsErr, Result}
+use Rattle.drain_meaning.specs.Transports.{Transport}
+use Rattle.drain_meaning.proofs.Callers.{directed_within}
+use Rattle.std.specs.Prelude.{nat_lt, IsOk, IsErr}
 use Rattle.std.proofs.lemmas.Bool.Decides.{nat_tests}
 use Rattle.cell_values.specs.declared.kind.Kind.{Kind}
 use Rattle.cell_values.specs.declared.cell.Over.{Over}
 use Rattle.drain_meaning.specs.Flows.{flow_outcome}
-use Rattle.drain_meaning.specs.Transports.{end_of, transport_outcome, transported, where_directed}
+use Rattle.drain_meaning.specs.Transports.{end_of, transport_outcome, where_directed}
 use Rattle.drain_meaning.proofs.Callers.{cases_directed}
 use Rattle.tile_map.specs.Parts.{IsPart, Outcome, TellsFirstOver, or_missing}
-use Rattle.drain_ops.specs.inside.Judged.{least_place, noted}
+use Rattle.drain_ops.specs.inside.Judged.{noted}
 
 -- the place is the least of those done so far whose outcome is Over, or none where no outcome is
 abbrev pub TellsLeast : (ℕ → Outcome) → (ℕ → Type 0) → Option ℕ → Type 0

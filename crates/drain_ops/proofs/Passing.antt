@@ -1,36 +1,21 @@
 -- How far the flow has come down.
-use Rattle.std.proofs.Common.{◌≡◌, ◌≢◌, ◌⊎◌, inl, inr, ℕ, ◌+◌, ◌-◌, ◌<◌, ◌≤◌, List, [], ◌∷◌, ◌++◌, length, map, refl, sym, ap, subst, ◌∙◌, arith, suc, zero, get_or, get_or-set_same, get_or-set_other, Bool, true, false, cond, drop, length-drop, length-append}
-use Rattle.std.specs.Prelude.{◌==◌, if◌then◌else◌, Option, Some, None, Ok, Err}
-use Rattle.std.specs.List.{Contains, IsDistinct, AllByRecursion, filter, range_with_len}
-use Rattle.std.proofs.Math.Dec.{eqb}
+use Rattle.std.proofs.Common.{◌≡◌, ◌≢◌, inl, inr, ℕ, ◌+◌, ◌<◌, ◌≤◌, List, [], ◌∷◌, ◌++◌, length, refl, sym, ap, subst, ◌∙◌, arith, suc, zero, get_or, get_or-set_same, get_or-set_other, false, length-append}
+use Rattle.std.specs.Prelude.{if◌then◌else◌}
+use Rattle.std.specs.List.{Contains}
 use Rattle.std.proofs.Math.ListN.{set, length-set}
-use Rattle.std.proofs.Math.Seq.{drop-cons}
-use Rattle.std.proofs.lemmas.Bool.{cases_eq, cases_lt, eq-eqb, eqb-true}
-use Rattle.std.proofs.lemmas.Bool.Decides.{eqb_tells}
-use Rattle.std.proofs.lemmas.List.{get_or-drop, get_or_default, get_or_past, get_or_read}
-use Rattle.std.proofs.lemmas.List.FromFn.{get_or-range_with_len, length-range_with_len}
-use Rattle.std.proofs.lemmas.Map.Steps.{length-le_from_distinct_below}
-use Rattle.std.proofs.lemmas.Map.Views.{Contains-from_any}
+use Rattle.std.proofs.lemmas.Bool.{cases_eq}
 use Rattle.text_base.specs.Limits.{most_cells}
 use Rattle.cell_values.specs.declared.cell.Cell.{Cell}
 use Rattle.cell_values.specs.declared.cell.Cell.TheVariants as cell
-use Rattle.cell_values.specs.declared.kind.Kind.TheVariants.{Scalar}
-use Rattle.cell_values.specs.Kinds.{IsCell}
 use Rattle.tile_map.specs.Cuts.{cell_at}
 use Rattle.drain_meaning.specs.declared.end.FlowEnd.{FlowEnd}
-use Rattle.drain_meaning.specs.declared.flow.Flow.{Flow}
-use Rattle.drain_meaning.specs.declared.next.Next.{Next}
 use Rattle.drain_meaning.specs.declared.next.Next.TheVariants as next
-use Rattle.drain_meaning.specs.declared.op.Orient.{Orient}
-use Rattle.drain_meaning.specs.declared.op.Orient.TheVariants.{Down, Up}
 use Rattle.drain_meaning.specs.Drains.{DrainMap, next_at}
 use Rattle.drain_meaning.specs.Flows.{FlowFits}
-use Rattle.drain_meaning.specs.Orders.{IsDrainOrder}
-use Rattle.drain_meaning.specs.Paths.{IsDirected}
-use Rattle.drain_meaning.specs.Rules.{Accumulator, RuleLaws, joined_all}
-use Rattle.drain_meaning.specs.Transports.{AreEnds, Transport, drains_into, feeders, tributaries}
-use Rattle.drain_meaning.proofs.Callers.{contains_cases, contains_first, contains_later, directed_within, drains_tells, map_alike}
-use Rattle.drain_ops.proofs.Gathered.{IsApart, gathered}
+use Rattle.drain_meaning.specs.Rules.{Accumulator, RuleLaws}
+use Rattle.drain_meaning.specs.Transports.{Transport, drains_into}
+use Rattle.drain_meaning.proofs.Callers.{contains_cases, contains_first, contains_later, drains_tells}
+use Rattle.drain_ops.proofs.Gathered.{gathered}
 use Rattle.drain_ops.proofs.Loads.{drains_true, loads, loads_other, loads_same}
 
 -- what the cell u passes on to c

@@ -1,35 +1,23 @@
 -- How far the two walks have come.
-use Rattle.std.proofs.Common.{◌≡◌, ◌≢◌, ◌⊎◌, inl, inr, ℕ, ◌+◌, ◌-◌, ◌<◌, ◌≤◌, List, [], ◌∷◌, ◌++◌, length, map, refl, sym, ap, subst, ◌∙◌, arith, suc, zero, get_or, get_or-set_same, get_or-set_other, Bool, true, false, cond, drop, length-drop, length-append}
-use Rattle.std.specs.Prelude.{◌==◌, if◌then◌else◌, Option, Some, None, Ok, Err}
-use Rattle.std.specs.List.{Contains, IsDistinct, AllByRecursion, filter, range_with_len}
-use Rattle.std.proofs.Math.Dec.{eqb}
-use Rattle.std.proofs.Math.ListN.{set, length-set}
+use Rattle.std.proofs.Common.{◌≡◌, ◌⊎◌, inl, inr, ℕ, ◌+◌, ◌-◌, ◌<◌, ◌≤◌, List, ◌∷◌, length, refl, sym, ap, subst, ◌∙◌, arith, suc, zero, get_or, drop}
+use Rattle.std.specs.Prelude.{Option}
+use Rattle.std.specs.List.{Contains}
+use Rattle.std.proofs.Math.ListN.{set}
 use Rattle.std.proofs.Math.Seq.{drop-cons}
-use Rattle.std.proofs.lemmas.Bool.{cases_eq, cases_lt, eq-eqb, eqb-true}
-use Rattle.std.proofs.lemmas.Bool.Decides.{eqb_tells}
-use Rattle.std.proofs.lemmas.List.{get_or-drop, get_or_default, get_or_past, get_or_read}
-use Rattle.std.proofs.lemmas.List.FromFn.{get_or-range_with_len, length-range_with_len}
-use Rattle.std.proofs.lemmas.Map.Steps.{length-le_from_distinct_below}
-use Rattle.std.proofs.lemmas.Map.Views.{Contains-from_any}
+use Rattle.std.proofs.lemmas.Bool.{cases_eq}
 use Rattle.text_base.specs.Limits.{most_cells}
 use Rattle.cell_values.specs.declared.cell.Cell.{Cell}
-use Rattle.cell_values.specs.declared.cell.Cell.TheVariants as cell
-use Rattle.cell_values.specs.declared.kind.Kind.TheVariants.{Scalar}
-use Rattle.cell_values.specs.Kinds.{IsCell}
 use Rattle.tile_map.specs.Cuts.{cell_at}
 use Rattle.drain_meaning.specs.declared.end.FlowEnd.{FlowEnd}
 use Rattle.drain_meaning.specs.declared.flow.Flow.{Flow}
-use Rattle.drain_meaning.specs.declared.next.Next.{Next}
 use Rattle.drain_meaning.specs.declared.next.Next.TheVariants as next
-use Rattle.drain_meaning.specs.declared.op.Orient.{Orient}
 use Rattle.drain_meaning.specs.declared.op.Orient.TheVariants.{Down, Up}
 use Rattle.drain_meaning.specs.Drains.{DrainMap, next_at}
-use Rattle.drain_meaning.specs.Flows.{FlowFits}
 use Rattle.drain_meaning.specs.Orders.{IsDrainOrder}
 use Rattle.drain_meaning.specs.Paths.{IsDirected}
-use Rattle.drain_meaning.specs.Rules.{Accumulator, RuleLaws, joined_all}
-use Rattle.drain_meaning.specs.Transports.{AreEnds, Transport, drains_into, feeders, tributaries}
-use Rattle.drain_meaning.proofs.Callers.{contains_cases, contains_first, contains_later, directed_within, drains_tells, map_alike}
+use Rattle.drain_meaning.specs.Rules.{Accumulator, RuleLaws}
+use Rattle.drain_meaning.specs.Transports.{Transport}
+use Rattle.drain_meaning.proofs.Callers.{contains_cases, contains_first, contains_later}
 use Rattle.cell_values.specs.declared.kind.Kind.{Kind}
 use Rattle.drain_meaning.specs.Flows.{flow_outcome}
 use Rattle.drain_meaning.specs.Sound.{IsDrain}
@@ -41,7 +29,7 @@ use Rattle.drain_ops.specs.Operands.{AreInRange}
 use Rattle.drain_ops.specs.inside.Judged.{noted}
 use Rattle.drain_ops.specs.inside.Upward.{flow_at, from_below}
 use Rattle.drain_ops.proofs.Judging.{OneMore, TellsLeast, outcome_directed, part_of_walk, tells_more}
-use Rattle.drain_ops.proofs.OrderLemmas.{in_drop, of_drop, order_within}
+use Rattle.drain_ops.proofs.OrderLemmas.{in_drop, of_drop}
 use Rattle.drain_ops.proofs.Passing.{Passing}
 use Rattle.drain_ops.proofs.Rising.{IsRisen, Risen, TurnUp, risen_more, turn_up}
 use Rattle.drain_ops.proofs.Turns.{Turn, after_on, after_rest, turn_now}

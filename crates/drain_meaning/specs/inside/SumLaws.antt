@@ -1,5 +1,5 @@
 -- The laws of the rules that add their inflows.
-use Rattle.std.proofs.Common.{◌≡◌, ◌∙◌, ℕ, ◌+◌, ◌<◌, ◌≤◌, List, [], ◌∷◌, refl, sym, ap, arith, Bool, true, false}
+use Rattle.std.proofs.Common.{◌≡◌, ◌∙◌, ℕ, ◌+◌, ◌<◌, List, [], ◌∷◌, refl, ap, arith, Bool, true, false}
 use Rattle.std.specs.Prelude.{ℤ, pos, ◌+ℤ◌, ◌-ℤ◌, int_lt, if◌then◌else◌}
 use Rattle.std.specs.Ordering.{int_eq}
 use Rattle.std.proofs.lemmas.Int.{ints}
@@ -12,7 +12,6 @@ use Rattle.drain_meaning.specs.declared.end.FlowEnd.{FlowEnd}
 use Rattle.drain_meaning.specs.declared.flow.Flow.{Flow}
 use Rattle.drain_meaning.specs.declared.flow.Flow.TheVariants as flow
 use Rattle.drain_meaning.specs.declared.op.FlowOp.TheVariants as op
-use Rattle.drain_meaning.specs.declared.op.Orient.{Orient}
 use Rattle.drain_meaning.specs.Equations.{equation_of, farthest, passing, threshold_op, transport_of}
 use Rattle.drain_meaning.specs.Flows.{FitsCells, FlowFits, material, nothing, together, total_flow}
 use Rattle.drain_meaning.specs.Rules.{RuleLaws, joined_all}

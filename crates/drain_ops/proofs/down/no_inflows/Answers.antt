@@ -1,4 +1,3 @@
-use Rattle.std.proofs.Common.{◌≡◌, ◌+◌, length, arith, length-append}
 use Rattle.drain_ops.proofs.Passing.{pushed_count, pushed_none}
 use Rattle.drain_ops.proofs.down.no_inflows.Goals as goal
 

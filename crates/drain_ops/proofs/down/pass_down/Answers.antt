@@ -1,4 +1,4 @@
-use Rattle.std.proofs.Common.{◌<◌, ◌-◌, ◌∙◌, arith, get_or, length, refl, sym}
+use Rattle.std.proofs.Common.{◌∙◌, arith, refl, sym}
 use Rattle.drain_meaning.proofs.Callers.{next_inside}
 use Rattle.tile_map.proofs.Callers.{has_place}
 use Rattle.drain_ops.proofs.Walks.{descended_all, descended_on, descended_rest, descended_turn}

@@ -1,4 +1,4 @@
-use Rattle.std.proofs.Common.{◌≡◌, ℕ, map}
+use Rattle.std.proofs.Common.{◌≡◌, map}
 use Rattle.std.specs.List.{range_with_len}
 use Rattle.drain_meaning.specs.Masks.{masked_code}
 use Rattle.tile_map.specs.Args.{arg_cell}

@@ -1,4 +1,4 @@
-use Rattle.std.proofs.Common.{◌<◌, ◌∙◌, arith, get_or, length}
+use Rattle.std.proofs.Common.{◌∙◌, arith}
 use Rattle.tile_map.proofs.Callers.{has_place}
 use Rattle.drain_ops.proofs.OrderLemmas.{order_within}
 use Rattle.drain_ops.proofs.Walks.{ascended_all, ascended_more, ascended_turn}
