@@ -20,20 +20,20 @@ use Rattle.script_types.specs.Lowered.{grid_input, input_of, inputs_of, output_o
 use Rattle.script_types.specs.Names.{binding_of, used_inputs}
 use Rattle.script_types.specs.Reports.{Bound, area_files, file_written}
 use Rattle.script_types.specs.Statements.{operations_of}
-use Rattle.run_session.specs.inside.Parts.{AreGrids, AreInitialGrids, AreMapsOf, HasNoSteps}
+use Rattle.run_session.specs.inside.Parts.{AllGrids, AreInitialGrids, AreMapsOf, HasNoSteps}
 
 -- ---- the program of a script
 
-grids_map : {A : Type 0} (f : A → InputUse) (xs : List A) → ((x : A) → (f x).role ≡ Grid) → AreGrids (map f xs)
+grids_map : {A : Type 0} (f : A → InputUse) (xs : List A) → ((x : A) → (f x).role ≡ Grid) → AllGrids (map f xs)
 grids_map f [] h = tt
 grids_map f (x ∷ xs) h = (h x, grids_map f xs h)
 
-grids_append : (xs ys : List InputUse) → AreGrids xs → AreGrids ys → AreGrids (xs ++ ys)
+grids_append : (xs ys : List InputUse) → AllGrids xs → AllGrids ys → AllGrids (xs ++ ys)
 grids_append [] ys a b = b
 grids_append (x ∷ xs) ys a b = (a.0, grids_append xs ys a.1 b)
 
 -- the inputs of a script are grids
-script_grids : (script : Script) → AreGrids (inputs_of script)
+script_grids : (script : Script) → AllGrids (inputs_of script)
 script_grids script =
     grids_append (map (λ file. grid_input file Scalar) (area_files (binding_of script script.area) script.area)) (map input_of (used_inputs script))
     (grids_map (λ file. grid_input file Scalar) (area_files (binding_of script script.area) script.area) (λ file. refl))
@@ -61,7 +61,7 @@ script_outputs bound statement before (l ∷ ls) =
 -- the program of a script that is built has no steps
 pub no_steps : (script : Script) (program : Program) → IsLowered script program → HasNoSteps program
 no_steps script program lowered = record {
-  inputs = subst AreGrids (sym lowered.program_of.inputs) (script_grids script);
+  inputs = subst AllGrids (sym lowered.program_of.inputs) (script_grids script);
   outputs = subst AreInitialGrids (sym lowered.program_of.outputs) (script_outputs (binding_of script) 1 0 lowered.lines);
 }
 
@@ -74,18 +74,18 @@ initial_at (x ∷ xs) (suc i) o all is = initial_at xs i o all.1 is
 -- ---- what is known of its inputs
 
 -- the inputs of another role are none
-no_others : (has : Role → Bool) → has Grid ≡ false → (list : List InputUse) → AreGrids list → filter (λ (input : InputUse). has input.role) list ≡ []
+no_others : (has : Role → Bool) → has Grid ≡ false → (list : List InputUse) → AllGrids list → filter (λ (input : InputUse). has input.role) list ≡ []
 no_others has none [] all = refl
 no_others has none (input ∷ list) all =
     ap (λ role. cond (has role) (input ∷ filter (λ (input : InputUse). has input.role) list) (filter (λ (input : InputUse). has input.role) list)) all.0 ∙
     (ap (λ b. cond b (input ∷ filter (λ (input : InputUse). has input.role) list) (filter (λ (input : InputUse). has input.role) list)) none ∙ no_others has none list all.1)
 
 -- nothing is known of them
-pub none_known : {X : Type 0} (has : Role → Bool) (Suits : InputUse → X → Type 0) → has Grid ≡ false → (list : List InputUse) → AreGrids list → AllZip Suits (filter (λ (input : InputUse). has input.role) list) []
+pub none_known : {X : Type 0} (has : Role → Bool) (Suits : InputUse → X → Type 0) → has Grid ≡ false → (list : List InputUse) → AllGrids list → AllZip Suits (filter (λ (input : InputUse). has input.role) list) []
 none_known has Suits none list all = subst (λ inputs. AllZip Suits inputs []) (sym (no_others has none list all)) tt
 
 -- the maps are those of all inputs
-pub grid_maps : (places : ℕ) (list : List InputUse) (maps : List WholeMap) → AreGrids list → AreMapsOf places list maps → AreInputMaps places list maps
+pub grid_maps : (places : ℕ) (list : List InputUse) (maps : List WholeMap) → AllGrids list → AreMapsOf places list maps → AreInputMaps places list maps
 grid_maps places [] [] all are = tt
 grid_maps places [] (m ∷ maps) all are = absurd are
 grid_maps places (input ∷ list) [] all are = absurd are

@@ -96,9 +96,9 @@ AreMapsOf places (input ∷ inputs) [] = ⊥
 AreMapsOf places (input ∷ inputs) (m ∷ maps) = IsMapOf places input.kind m × AreMapsOf places inputs maps
 
 -- all of these inputs are grids
-abbrev pub AreGrids : List InputUse → Type 0
-AreGrids [] = ⊤
-AreGrids (input ∷ inputs) = (input.role ≡ IsGrid) × AreGrids inputs
+abbrev pub AllGrids : List InputUse → Type 0
+AllGrids [] = ⊤
+AllGrids (input ∷ inputs) = (input.role ≡ IsGrid) × AllGrids inputs
 
 -- all of these outputs are grids of `initial`
 abbrev pub AreInitialGrids : List OutputUse → Type 0
@@ -107,7 +107,7 @@ AreInitialGrids (output ∷ outputs) = (output.kind ≡ InitialGrid) × AreIniti
 
 -- the program has no steps: its inputs are grids, and so are its outputs
 pub record HasNoSteps (program : Program) : Type 0 where
-  pub inputs : AreGrids program.inputs
+  pub inputs : AllGrids program.inputs
   pub outputs : AreInitialGrids program.outputs
 
 -- the maps of these inputs, of a size that is within the limits
