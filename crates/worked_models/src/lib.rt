@@ -11,6 +11,4 @@ mod meaning;
 #[cfg(test)]
 mod plain;
 #[cfg(test)]
-mod scripts;
-#[cfg(test)]
 mod texts;

@@ -1,7 +1,6 @@
 //! Scripts and programs of texts.
 
 ghost use Rattle.std.specs.Prelude.{IfOk};
-ghost use Rattle.map_meaning.specs.Programs.{IsWellFormed};
 ghost use Rattle.script_syntax.specs.WellMade.{IsWellMade};
 
 use map_meaning::Program;
@@ -26,7 +25,6 @@ pub fn script_of(alloc: Global, text: &str) -> Result<Script, Fail>
 /// The program of a script that a text gives.
 pub fn program_of(alloc: Global, script: &Script) -> Result<Program, Fail>
     requires { IsWellMade script.now }
-    ensures { IfOk result IsWellFormed }
 {
     match lower(alloc, script) {
         Ok(program) => Ok(program),
