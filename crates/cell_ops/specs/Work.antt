@@ -94,4 +94,4 @@ GiveTheMeaning =
     (work : CellWork) (op : Op) (setting : Setting) (operands : List CellAt) (place : ℕ) → IsWorkOf work op setting →
     outcome_of op setting operands place
     ≡ work_outcome work (operand_at operands 0 place) (operand_at operands 1 place)
-        (operand_at operands 2 place) (operand_at operands 3 place)
+    (operand_at operands 2 place) (operand_at operands 3 place)

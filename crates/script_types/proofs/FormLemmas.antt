@@ -177,7 +177,7 @@ forms-call inputs old mid kept k op args xs o h4 ho hk hkept has lx a kinds hr =
       d = subst (IsBelow program (length mid)) (sym has.d) (below-at program (length mid) xs 3 given);
       used = ap are_used_first (in-four o xs has) ∙ used-four program (length mid) xs given few;
       kinds = subst (λ p. HasKinds (map_row (row_of p)) (kinds_of program o) o.kind) (sym ho) (subst (λ ks. HasKinds (map_row (row_of op)) ks o.kind) (sym same) (subst (HasKinds (map_row (row_of op)) (map kind-of args)) (sym hk) (subst (λ r. HasKinds r (map kind-of args) k) (sym (map-row-is op (map kind-of args) k hr)) (kinds-of-row (row_of op) (map kind-of args) k hr))));
-          file = subst (λ f. IsFileOf program f o.kind o.file) (sym (ap (λ p. file_role p (length (kinds_of program o))) ho ∙ no-file op (length (kinds_of program o)) (map kind-of args) k hr)) tt;
+      file = subst (λ f. IsFileOf program f o.kind o.file) (sym (ap (λ p. file_role p (length (kinds_of program o))) ho ∙ no-file op (length (kinds_of program o)) (map kind-of args) k hr)) tt;
     } in
     record {
       added = a.added ++ o ∷ [];
