@@ -7,7 +7,7 @@ use plain_eval::PlainRunner;
 use std::alloc::{AllocError, Global};
 use std::sync::Arc;
 
-/// What a runner was asked: the size, how many operations and how many maps of inputs.
+/// What a runner was asked: the size, how many operations of `initial` and how many maps of inputs.
 #[derive(Clone, Copy, Debug, PartialEq, Eq)]
 pub struct Note {
     pub rows: u32,
@@ -47,11 +47,14 @@ impl BlockRunner for NotingRunner {
         span: Span,
         known: &Arc<Known>,
     ) -> Result<StageEnd, AllocError> {
-        let Span::Initial { first, end } = span;
+        let operations = match span {
+            Span::Initial { first, end } => end - first,
+            Span::Steps { .. } => 0,
+        };
         self.notes.push(Note {
             rows: known.rows,
             cols: known.cols,
-            operations: end - first,
+            operations,
             maps: known.maps.len(),
         })?;
         self.plain.run(alloc, program, span, known)
