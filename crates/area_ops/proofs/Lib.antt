@@ -1,0 +1,4 @@
+mod MapLemmas
+mod OrderLemmas
+mod PlaceLemmas
+mod TallyLemmas

@@ -1,0 +1,5 @@
+pub mod Areas
+pub mod Laws
+pub mod Partials
+pub mod Results
+pub mod inside

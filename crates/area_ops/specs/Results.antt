@@ -1,0 +1,42 @@
+-- The results of area operations. Scalars count millionths.
+use Rattle.std.specs.Prelude.{ℤ, pos, ◌+ℤ◌, ◌*ℤ◌, List, [], ◌∷◌, length, Ok}
+use Rattle.std.specs.Int.{int_max, int_min}
+use Rattle.cell_values.specs.declared.kind.Kind.TheVariants.{Scalar}
+use Rattle.cell_values.specs.declared.cell.Cell.{Cell}
+use Rattle.cell_values.specs.declared.cell.Cell.TheVariants.{Mv, Val}
+use Rattle.cell_values.specs.Kinds.{cell_of_number}
+use Rattle.cell_values.specs.Rounding.{nearest}
+use Rattle.cell_values.specs.Units.{million}
+use Rattle.tile_map.specs.Parts.{Outcome}
+use Rattle.area_ops.specs.declared.op.AreaOp.{AreaOp}
+use Rattle.area_ops.specs.declared.op.AreaOp.TheVariants.{Total, Average, Minimum, Maximum, Area}
+use Rattle.area_ops.specs.Areas.{AreaPlace, numbers_of}
+
+-- the sum of numbers, unbounded
+abbrev pub total_of : List ℤ → ℤ
+total_of [] = pos 0
+total_of (x ∷ xs) = x +ℤ total_of xs
+
+-- the least of a number and further ones
+abbrev pub least_of : ℤ → List ℤ → ℤ
+least_of x [] = x
+least_of x (y ∷ ys) = int_min x (least_of y ys)
+
+-- the greatest of a number and further ones
+abbrev pub greatest_of : ℤ → List ℤ → ℤ
+greatest_of x [] = x
+greatest_of x (y ∷ ys) = int_max x (greatest_of y ys)
+
+-- what an operation gives of the numbers of an area: a missing value where there is none
+unfoldable pub area_result : AreaOp → List ℤ → Outcome
+area_result op [] = Ok Mv
+area_result Total (x ∷ xs) = cell_of_number Scalar (total_of (x ∷ xs))
+area_result Average (x ∷ xs) = cell_of_number Scalar (nearest (total_of (x ∷ xs)) (length (x ∷ xs)))
+area_result Minimum (x ∷ xs) = Ok (Val (least_of x xs))
+area_result Maximum (x ∷ xs) = Ok (Val (greatest_of x xs))
+area_result Area (x ∷ xs) = Ok (Val (pos (length (x ∷ xs)) *ℤ pos million))
+
+-- the outcome at a place of a class, by the places that the areas are made of: a missing value where the class is missing
+abbrev pub area_outcome : AreaOp → List AreaPlace → Cell → Outcome
+area_outcome op places Mv = Ok Mv
+area_outcome op places (Val class) = area_result op (numbers_of op places class)

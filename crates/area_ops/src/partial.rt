@@ -1,0 +1,242 @@
+//! Partials of area operations.
+
+ghost use Rattle.std.specs.Prelude.{◌≡◌, ◌+◌, ◌≤◌, ◌++◌, ◌∷◌, [], ℤ, List, IfOk, OnOk, OnErr};
+ghost use Rattle.text_base.specs.Limits.{most_cells};
+ghost use Rattle.tile_map.specs.Args.{SpansPlaces, arg_cell};
+ghost use Rattle.tile_map.specs.Parts.{part_of};
+ghost use Rattle.area_ops.specs.Areas.{AreaPlace, area_places, numbers_of, taken};
+ghost use Rattle.area_ops.specs.Partials.{StandsFor};
+ghost use Rattle.area_ops.specs.Results.{area_outcome};
+ghost use Rattle.area_ops.specs.inside.Tallies.{AreTallies, IsTally, place_tally, seen_from, tally_at, tally_join, number_tally, tally_outcome};
+
+use crate::op::AreaOp;
+use crate::tally::Tally;
+use cell_values::{Cell, Cells, Over};
+use std::alloc::{AllocError, Global};
+use std::collections::BTreeMap;
+use std::marker::Model;
+use tile_map::{Arg, Part};
+
+/// What an area operation keeps of the cells of a map, or of a part of one: what its result needs, for each class.
+/// Contracts see the operation, how many cells the partial stands for, and the tally of each class.
+#[derive(Drop)]
+pub struct Partial {
+    op: AreaOp,
+    cells: usize,
+    areas: BTreeMap<i64, Tally>,
+}
+
+impl Model for Partial {
+    ghost use Rattle.std.specs.Prelude.{◌≤◌};
+    ghost use Rattle.text_base.specs.Limits.{most_cells};
+    ghost use Rattle.area_ops.specs.Partials.{PartialValue};
+    ghost use Rattle.area_ops.specs.inside.Tallies.{AreTallies, tally_at};
+
+    ghost Value = { PartialValue };
+
+    ghost view = { λ p. record { op = p.op; cells = p.cells; tallies = p.areas.entries } };
+
+    ghost invariant = { λ p. (p.cells ≤ most_cells) × AreTallies p.cells (tally_at p.areas) };
+}
+
+// What an operation takes from a value.
+#[inline(always)]
+fn taken(op: AreaOp, value: Cell) -> Option<i64>
+    ensures { result ≡ taken op value }
+{
+    match (op, value) {
+        (AreaOp::Area, _) => Some(0),
+        (_, Cell::Mv) => None,
+        (_, Cell::Val(number)) => Some(number),
+    }
+}
+
+// The tally of a class.
+#[tactic(auto, unfolding(crate::specs::inside::Tallies::tally_in))]
+fn tally_at(areas: &BTreeMap<i64, Tally>, class: i64) -> Tally
+    ensures { result ≡ tally_at areas.now class }
+{
+    areas.get(&class).copied().unwrap_or(Tally::none())
+}
+
+// Adds a tally to that of a class.
+fn add(areas: &mut BTreeMap<i64, Tally>, class: i64, more: Tally) -> Result<(), AllocError>
+    requires old { (own : ℤ) → IsTally (tally_at areas.old own) }
+    requires more { IsTally more }
+    requires few { (tally_at areas.old class).count + more.count ≤ most_cells }
+    ensures tallies { OnOk result ((own : ℤ) → tally_at areas.new own ≡ tally_join (tally_at areas.old own) (seen_from own class more)) }
+    ensures sound { OnOk result ((own : ℤ) → IsTally (tally_at areas.new own)) }
+{
+    let tally = tally_at(areas, class).join(more);
+    areas.insert(class, tally)?;
+    Ok(())
+}
+
+// Adds a place to the tallies of the classes.
+fn add_place(
+    areas: &mut BTreeMap<i64, Tally>,
+    op: AreaOp,
+    value: Cell,
+    area: Cell,
+) -> Result<(), AllocError>
+    requires old { (own : ℤ) → IsTally (tally_at areas.old own) }
+    requires few { (own : ℤ) → (tally_at areas.old own).count + 1 ≤ most_cells }
+    ensures tallies { OnOk result ((own : ℤ) → tally_at areas.new own ≡ tally_join (tally_at areas.old own) (place_tally op own value area)) }
+    ensures sound { OnOk result ((own : ℤ) → IsTally (tally_at areas.new own)) }
+{
+    match (area, taken(op, value)) {
+        (Cell::Val(class), Some(number)) => add(areas, class, Tally::one(number)),
+        _ => Ok(()),
+    }
+}
+
+// The tallies of the classes over so many places.
+fn tallies(
+    alloc: Global,
+    op: AreaOp,
+    values: Arg<'_>,
+    classes: Arg<'_>,
+    len: usize,
+) -> Result<BTreeMap<i64, Tally>, AllocError>
+    requires few { len ≤ most_cells }
+    requires values { SpansPlaces values len }
+    requires classes { SpansPlaces classes len }
+    ensures numbers { IfOk result (λ areas. (class : ℤ) → tally_at areas class ≡ number_tally (numbers_of op (area_places values.entry classes.entry len) class)) }
+    ensures sound { IfOk result (λ areas. AreTallies len (tally_at areas)) }
+{
+    let mut areas = BTreeMap::new(alloc);
+    for place in 0..len {
+        add_place(&mut areas, op, values.at(place), classes.at(place))?;
+    }
+    Ok(areas)
+}
+
+// Adds the tallies of all classes of a map to those of another.
+fn pour(into: &mut BTreeMap<i64, Tally>, from: &BTreeMap<i64, Tally>) -> Result<(), AllocError>
+    requires into { (class : ℤ) → IsTally (tally_at into.old class) }
+    requires from { (class : ℤ) → IsTally (tally_at from.now class) }
+    requires few { (class : ℤ) → (tally_at into.old class).count + (tally_at from.now class).count ≤ most_cells }
+    ensures tallies { OnOk result ((class : ℤ) → tally_at into.new class ≡ tally_join (tally_at into.old class) (tally_at from.now class)) }
+    ensures sound { OnOk result ((own : ℤ) → IsTally (tally_at into.new own)) }
+{
+    for (class, tally) in from {
+        add(into, *class, *tally)?;
+    }
+    Ok(())
+}
+
+// The tallies of the classes of two maps.
+fn poured(
+    alloc: Global,
+    a: &BTreeMap<i64, Tally>,
+    b: &BTreeMap<i64, Tally>,
+) -> Result<BTreeMap<i64, Tally>, AllocError>
+    requires a { (class : ℤ) → IsTally (tally_at a.now class) }
+    requires b { (class : ℤ) → IsTally (tally_at b.now class) }
+    requires few { (class : ℤ) → (tally_at a.now class).count + (tally_at b.now class).count ≤ most_cells }
+    ensures tallies { IfOk result (λ areas. (class : ℤ) → tally_at areas class ≡ tally_join (tally_at a.now class) (tally_at b.now class)) }
+    ensures sound { IfOk result (λ areas. (own : ℤ) → IsTally (tally_at areas own)) }
+{
+    let mut areas = BTreeMap::new(alloc);
+    pour(&mut areas, a)?;
+    pour(&mut areas, b)?;
+    Ok(areas)
+}
+
+// What an operation gives at a place of a class.
+fn outcome(areas: &BTreeMap<i64, Tally>, op: AreaOp, area: Cell) -> Result<Cell, Over>
+    requires sound { (class : ℤ) → IsTally (tally_at areas.now class) }
+    requires few { (class : ℤ) → (tally_at areas.now class).count ≤ most_cells }
+    ensures { result ≡ tally_outcome op (tally_at areas.now) area }
+{
+    match area {
+        Cell::Mv => Ok(Cell::Mv),
+        Cell::Val(class) => tally_at(areas, class).result(op),
+    }
+}
+
+// What an operation gives at so many places of classes.
+fn outcomes(
+    alloc: Global,
+    areas: &BTreeMap<i64, Tally>,
+    op: AreaOp,
+    classes: Arg<'_>,
+    len: usize,
+) -> Result<Part, AllocError>
+    requires sound { (class : ℤ) → IsTally (tally_at areas.now class) }
+    requires few { (class : ℤ) → (tally_at areas.now class).count ≤ most_cells }
+    requires len { len ≤ most_cells }
+    requires classes { SpansPlaces classes len }
+    ensures { IfOk result (λ part. part ≡ part_of (λ place. tally_outcome op (tally_at areas.now) (arg_cell classes.entry place)) len) }
+{
+    let mut cells = Vec::with_capacity(alloc, len)?;
+    let mut over = None;
+    for place in 0..len {
+        match outcome(areas, op, classes.at(place)) {
+            Ok(cell) => cells.push(cell)?,
+            Err(_) => {
+                cells.push(Cell::Mv)?;
+                if over.is_none() {
+                    over = Some(place as u32);
+                }
+            }
+        }
+    }
+    Ok(Part {
+        cells: Cells::from_vec(cells),
+        over,
+    })
+}
+
+impl Partial {
+    /// The partial of so many places: of their values, and of the classes that they belong to. The number of cells of an
+    /// area takes no value, and any operand does.
+    pub fn of(
+        alloc: Global,
+        op: AreaOp,
+        values: Arg<'_>,
+        classes: Arg<'_>,
+        len: usize,
+    ) -> Result<Partial, AllocError>
+        requires few { len ≤ most_cells }
+        requires values { SpansPlaces values len }
+        requires classes { SpansPlaces classes len }
+        ensures op { IfOk result (λ partial. partial.op ≡ op) }
+        ensures stands { IfOk result (λ partial. StandsFor partial (area_places values.entry classes.entry len)) }
+    {
+        let areas = tallies(alloc, op, values, classes, len)?;
+        Ok(Partial {
+            op,
+            cells: len,
+            areas,
+        })
+    }
+
+    /// Takes in the cells of another partial of the same operation. A refused merge leaves the partial as it was. Takes
+    /// time in proportion to the classes of both, times the logarithm of their number.
+    pub fn merge(&mut self, alloc: Global, other: &Partial) -> Result<(), AllocError>
+        requires op { self.old.op ≡ other.now.op }
+        requires few { self.old.cells + other.now.cells ≤ most_cells }
+        // It stands for the places of both.
+        ensures stands { OnOk result ((xs ys : List AreaPlace) → StandsFor self.old xs → StandsFor other.now ys → StandsFor self.new (xs ++ ys)) }
+        ensures cells { OnOk result (self.new.cells ≡ self.old.cells + other.now.cells) }
+        // The operation stays, and after a refusal all does.
+        ensures op { self.new.op ≡ self.old.op }
+        ensures refused { OnErr result (self.new ≡ self.old) }
+    {
+        let areas = poured(alloc, &self.areas, &other.areas)?;
+        self.areas = areas;
+        self.cells += other.cells;
+        Ok(())
+    }
+
+    /// The result at each of so many places, by the class of each: the cell, a missing value where the class is missing,
+    /// has no value, or the result is out of range, and the first place whose result is out of range.
+    pub fn spread(&self, alloc: Global, classes: Arg<'_>, len: usize) -> Result<Part, AllocError>
+        requires few { len ≤ most_cells }
+        requires classes { SpansPlaces classes len }
+        ensures { (places : List AreaPlace) → StandsFor self.now places → IfOk result (λ part. part ≡ part_of (λ place. area_outcome self.now.op places (arg_cell classes.entry place)) len) }
+    {
+        outcomes(alloc, &self.areas, self.op, classes, len)
+    }
+}
