@@ -43,14 +43,14 @@ fn of_kind(alloc: Global, kind: Kind, given: &[Cell]) -> Result<Vec<Cell>, Alloc
 }
 
 /// The cells of an operand, each a scalar.
-pub fn scalars(alloc: Global, given: &[Cell]) -> Result<Vec<Cell>, AllocError>
+pub(crate) fn scalars(alloc: Global, given: &[Cell]) -> Result<Vec<Cell>, AllocError>
     ensures { IfOk result (λ cells. (place : ℕ) → IsCell Scalar (cell_at cells.items place)) }
 {
     of_kind(alloc, Kind::Scalar, given)
 }
 
 /// The cells of a drawn map: its digits, and a missing value for each other sign.
-pub fn drawn_cells(alloc: Global, signs: &[u8]) -> Result<Vec<Cell>, AllocError> {
+pub(crate) fn drawn_cells(alloc: Global, signs: &[u8]) -> Result<Vec<Cell>, AllocError> {
     let mut cells = Vec::with_capacity(alloc, signs.len())?;
     for sign in signs {
         cells.push(match *sign {
@@ -62,7 +62,7 @@ pub fn drawn_cells(alloc: Global, signs: &[u8]) -> Result<Vec<Cell>, AllocError>
 }
 
 /// The check of a map of these codes, where it has as many as its size says.
-pub fn checked(
+pub(crate) fn checked(
     alloc: Global,
     rows: u32,
     cols: u32,
@@ -77,7 +77,7 @@ pub fn checked(
 }
 
 /// The drawn map, which is sound.
-pub fn drain_of(alloc: Global, (rows, cols, signs): Drawn) -> Result<Drain, Fail> {
+pub(crate) fn drain_of(alloc: Global, (rows, cols, signs): Drawn) -> Result<Drain, Fail> {
     match checked(alloc, rows, cols, drawn_cells(alloc, signs)?.as_slice())? {
         Ok(drain) => Ok(drain),
         Err(_) => Err("the map is not sound")?,

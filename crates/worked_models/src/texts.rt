@@ -10,7 +10,7 @@ use std::alloc::Global;
 use std::test::Fail;
 
 /// The script of a text.
-pub fn script_of(alloc: Global, text: &str) -> Result<Script, Fail>
+pub(crate) fn script_of(alloc: Global, text: &str) -> Result<Script, Fail>
     ensures { IfOk result IsWellMade }
 {
     if text.len() > 268_435_456 {
@@ -23,7 +23,7 @@ pub fn script_of(alloc: Global, text: &str) -> Result<Script, Fail>
 }
 
 /// The program of a script that a text gives.
-pub fn program_of(alloc: Global, script: &Script) -> Result<Program, Fail>
+pub(crate) fn program_of(alloc: Global, script: &Script) -> Result<Program, Fail>
     requires { IsWellMade script.now }
 {
     match lower(alloc, script) {

@@ -21,7 +21,7 @@ pub struct Counter {
 
 impl Counter {
     /// A counter with room for so many additions.
-    pub fn new(alloc: Global, room: usize) -> Result<Counter, AllocError>
+    pub(crate) fn new(alloc: Global, room: usize) -> Result<Counter, AllocError>
         ensures { IfOk result (λ c. c.additions.items ≡ []) }
     {
         let additions = Vec::with_capacity(alloc, room)?;
