@@ -24,7 +24,7 @@ use Rattle.drain_meaning.specs.Sound.{IsDrain}
 use Rattle.drain_meaning.specs.Transports.{end_of, transport_outcome}
 use Rattle.drain_meaning.proofs.Callers.{ends_meet}
 use Rattle.tile_map.specs.Parts.{Outcome, or_missing, part_of}
-use Rattle.tile_map.proofs.PartLemmas.{marks_its_overs}
+use Rattle.tile_map.proofs.Callers.{marks_its_overs}
 use Rattle.drain_ops.specs.Operands.{AreInRange}
 use Rattle.drain_ops.specs.inside.Judged.{noted}
 use Rattle.drain_ops.specs.inside.Upward.{flow_at, from_below}

@@ -20,6 +20,13 @@ use Rattle.tile_map.proofs.PasteLemmas as pastes
 use Rattle.tile_map.proofs.RectLemmas as rects
 use Rattle.tile_map.proofs.TileLemmas as tiles
 
+-- rows and columns of a rectangle's cells, and of the numbers of held places
+pub use Rattle.tile_map.proofs.RectLemmas.{cell_col, cell_row, number_col, number_row, some_cols}
+-- a rectangle lists just its places
+pub use Rattle.tile_map.proofs.RectLemmas.{ascends_over_places}
+-- a part that marks the Overs of some outcomes is theirs
+pub use Rattle.tile_map.proofs.PartLemmas.{marks_its_overs}
+
 -- ---- rectangles
 
 -- a rectangle holds the place of each of its cells, and this is a place of the map
