@@ -31,7 +31,8 @@ without_same rule x f = rw (eq-eqb x x refl)
 without_other : {A : Type 0} (rule : Accumulator A) (x : ℕ) (f : ℕ → A) (u : ℕ) → u ≢ x → without rule x f u ≡ f u
 without_other rule x f u ne = elim (eqb_tells u x) as (λ _. without rule x f u ≡ f u) [ inl t ↦ absurd (ne t.1) | inr t ↦ rw t.0 ]
 
-gathered_alike : {A : Type 0} (rule : Accumulator A) (f g : ℕ → A) (xs : List ℕ) → ((u : ℕ) → Contains xs u → f u ≡ g u) → gathered rule f xs ≡ gathered rule g xs
+-- values that agree on a list are joined to the same
+pub gathered_alike : {A : Type 0} (rule : Accumulator A) (f g : ℕ → A) (xs : List ℕ) → ((u : ℕ) → Contains xs u → f u ≡ g u) → gathered rule f xs ≡ gathered rule g xs
 gathered_alike rule f g [] e = refl
 gathered_alike rule f g (x ∷ xs) e =
     let rest : gathered rule f xs ≡ gathered rule g xs = gathered_alike rule f g xs (λ u h. e u (contains_later x xs u h)) in
@@ -109,3 +110,14 @@ apart_range n = apart_of (range_with_len 0 n) (λ i j h k same.
 
 pub in_range : (n u : ℕ) → u < n → Contains (range_with_len 0 n) u
 in_range n u h = (u, omega (arith, length-range_with_len 0 n), get_or-range_with_len 0 n u u h ∙ omega arith)
+
+-- the places of a map are below its number of cells
+pub of_range : (n u : ℕ) → Contains (range_with_len 0 n) u → u < n
+of_range n u h =
+    let low : h.0 < n = omega (arith, h.1, length-range_with_len 0 n) in
+    omega (arith, low, get_or-range_with_len 0 n h.0 u low, h.2)
+
+-- joined over the images of a list
+pub gathered-map : {A : Type 0} (rule : Accumulator A) (f : ℕ → A) (g : ℕ → ℕ) (xs : List ℕ) → gathered rule f (map g xs) ≡ gathered rule (λ u. f (g u)) xs
+gathered-map rule f g [] = refl
+gathered-map {A = A} rule f g (x ∷ xs) = ap (λ (y : A). rule.joined y (f (g x))) (gathered-map rule f g xs)

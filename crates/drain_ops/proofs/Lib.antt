@@ -1,8 +1,12 @@
+pub mod CutoutLemmas
+pub mod FedLemmas
 pub mod Gathered
 pub mod Judging
 pub mod Loads
+pub mod NearLemmas
 pub mod OrderLemmas
 pub mod Passing
 pub mod Rising
+pub mod SurroundingLemmas
 pub mod Turns
 pub mod Walks

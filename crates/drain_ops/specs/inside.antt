@@ -1,2 +1,3 @@
+pub mod Cutout
 pub mod Judged
 pub mod Upward

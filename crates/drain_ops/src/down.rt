@@ -32,7 +32,7 @@ fn end_at<R: FlowRule>(rule: &R, inflows: &[R::Acc], at: u32, a: Arg<'_>, b: Arg
 }
 
 // Joins an outflow with what came to the cell before.
-fn receive<R: FlowRule>(rule: &R, inflows: &mut [R::Acc], down: usize, out: Flow)
+pub(crate) fn receive<R: FlowRule>(rule: &R, inflows: &mut [R::Acc], down: usize, out: Flow)
     requires within { down < length inflows.old }
     requires fit { FitTogether (R.rule rule.now) (slice_index_or inflows.old down (R.rule rule.now).none) ((R.rule rule.now).lifted out) }
     ensures { inflows.new ≡ slice_set inflows.old down
@@ -82,7 +82,11 @@ fn pass_down<R: FlowRule>(
 }
 
 // Nothing has come to any of so many cells yet.
-fn no_inflows<R: FlowRule>(alloc: Global, rule: &R, count: usize) -> Result<Vec<R::Acc>, AllocError>
+pub(crate) fn no_inflows<R: FlowRule>(
+    alloc: Global,
+    rule: &R,
+    count: usize,
+) -> Result<Vec<R::Acc>, AllocError>
     ensures count { IfOk result (λ inflows. length inflows.items ≡ count) }
     ensures nothing { IfOk result (λ inflows. (d : ℕ) → slice_index_or inflows.items d (R.rule rule.now).none ≡ (R.rule rule.now).none) }
 {

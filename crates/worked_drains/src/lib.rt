@@ -11,4 +11,6 @@ mod maps;
 #[cfg(test)]
 mod masks;
 #[cfg(test)]
+mod near;
+#[cfg(test)]
 mod rivers;
