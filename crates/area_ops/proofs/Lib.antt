@@ -1,3 +1,6 @@
+mod CountLemmas
+mod LeaderLemmas
+mod MajorityLemmas
 mod MapLemmas
 mod OrderLemmas
 mod PlaceLemmas

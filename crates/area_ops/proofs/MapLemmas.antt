@@ -1,7 +1,7 @@
 -- Maps of tallies.
 use Rattle.std.proofs.Common.{◌≡◌, ℕ, ◌+◌, ◌≤◌, ℤ, Bool, true, false, cond, List, [], ◌∷◌, refl, sym, ap, subst, ◌∙◌, arith, Less, Equal}
-use Rattle.std.specs.Prelude.{Option, Some, if◌then◌else◌}
-use Rattle.std.specs.Option.{unwrap_or}
+use Rattle.std.specs.Prelude.{Option, Some, None, if◌then◌else◌, option_map}
+use Rattle.std.specs.Option.{option_or, unwrap_or}
 use Rattle.std.specs.Ordering.{int_cmp, int_eq}
 use Rattle.std.specs.Cmp.{int_cmp_total}
 use Rattle.std.specs.BTreeMap.{BTreeMap, get}
@@ -11,8 +11,10 @@ use Rattle.std.specs.Map.{keys_of, lookup}
 use Rattle.std.proofs.lemmas.Bool.{false_from_ne_true}
 use Rattle.std.proofs.lemmas.Cmp.{tied_itself}
 use Rattle.std.proofs.lemmas.Bool.Decides.{Decides-int_eq}
+use Rattle.tile_map.specs.Parts.{Outcome}
 use Rattle.area_ops.specs.declared.tally.Tally.{Tally}
 use Rattle.area_ops.specs.inside.Tallies.{no_tally, IsTally, AreTallies, seen_from, tally_at, tally_in, tally_join, with_entries}
+use Rattle.area_ops.proofs.MajorityLemmas.{int_eq-flip}
 use Rattle.area_ops.proofs.TallyLemmas.{count-tally_join, join_none, none_join_sound, sound-no_tally}
 
 -- two numbers that are equal by the test
@@ -157,4 +159,33 @@ pub nothing_sound : (m : BTreeMap ℤ Tally) → m.entries ≡ [] → AreTallies
 nothing_sound m empty = record {
   sound = λ class. subst IsTally (sym (at_nothing m class empty)) sound-no_tally;
   few = λ class. let e = ap (λ (t : Tally). t.count) (at_nothing m class empty) in omega (arith, e);
+}
+
+-- results with one more class
+pub filled : {X : Type 0} (f : X → Outcome) (b : Bool) (old : Option Outcome) (x : X) (rest from : Option X) → (b ≡ true → from ≡ Some x) →
+    option_or old (option_map f (cond b (Some x) rest)) ≡ option_map f from → option_or (cond b (Some (f x)) old) (option_map f rest) ≡ option_map f from
+filled f true old x rest from found h = sym (ap (option_map f) (found refl))
+filled f false old x rest from found h = h
+
+pub filled_all : (o : Option Outcome) → option_or o None ≡ o
+filled_all None = refl
+filled_all (Some x) = refl
+
+pub filled_step : {X : Type 0} (f : X → Outcome) (old new : BTreeMap ℤ Outcome) (from : BTreeMap ℤ X) (k l : ℤ) (x : X) (r : Outcome) (all rest : List (ℤ × X)) → l ≡ k → r ≡ f x →
+    ((q : ℤ) → get int_cmp new q ≡ cond (int_eq l q) (Some r) (get int_cmp old q)) → all ≡ (k, x) ∷ rest → get int_cmp from k ≡ Some x →
+    ((q : ℤ) → option_or (get int_cmp old q) (option_map f (lookup (λ own. int_eq q own) all)) ≡ option_map f (get int_cmp from q)) →
+    (q : ℤ) → option_or (get int_cmp new q) (option_map f (lookup (λ own. int_eq q own) rest)) ≡ option_map f (get int_cmp from q)
+filled_step {X} f old new from k l x r all rest same is put first found left q =
+    let here = lookup (λ own. int_eq q own) rest in
+    ap (λ (o : Option Outcome). option_or o (option_map f here))
+    (put q ∙ (ap (λ (z : ℤ). cond (int_eq z q) (Some r) (get int_cmp old q)) same ∙ ap (λ (o : Outcome). cond (int_eq k q) (Some o) (get int_cmp old q)) is))
+    ∙ filled f (int_eq k q) (get int_cmp old q) x here (get int_cmp from q) (λ e. ap (get int_cmp from) (sym (same_number k q e)) ∙ found)
+    (ap (λ (b : Bool). option_or (get int_cmp old q) (option_map f (cond b (Some x) here))) (int_eq-flip k q)
+    ∙ (ap (λ (es : List (ℤ × X)). option_or (get int_cmp old q) (option_map f (lookup (λ own. int_eq q own) es))) (sym first) ∙ left q))
+
+-- no tally at all, with any bound
+pub nothing_few : (most : ℕ) (m : BTreeMap ℤ Tally) → m.entries ≡ [] → AreTallies most (tally_at m)
+nothing_few most m empty = record {
+  sound = (nothing_sound m empty).sound;
+  few = λ class. let e = (nothing_sound m empty).few class in omega (arith, e);
 }

@@ -1,7 +1,9 @@
 -- The numbers of areas, place by place and list by list.
 use Rattle.std.proofs.Common.{◌≡◌, ℕ, zero, suc, ◌+◌, ◌≤◌, ℤ, Bool, true, false, List, [], ◌∷◌, ◌++◌, length, refl, sym, ap, ◌∙◌, arith}
-use Rattle.std.specs.Prelude.{Option, Some, None, if◌then◌else◌}
+use Rattle.std.specs.Prelude.{Option, Some, None, Ok, if◌then◌else◌, option_map}
+use Rattle.std.specs.Option.{unwrap_or}
 use Rattle.std.specs.List.{filter_map}
+use Rattle.std.specs.Map.{lookup}
 use Rattle.std.specs.Ordering.{int_eq}
 use Rattle.std.proofs.lemmas.List.{length-append, length_push}
 use Rattle.std.proofs.lemmas.List.Elements.{filter_map-append}
@@ -15,9 +17,13 @@ use Rattle.area_ops.specs.declared.op.AreaOp.{AreaOp}
 use Rattle.area_ops.specs.declared.tally.Tally.{Tally}
 use Rattle.area_ops.specs.Areas.{AreaPlace, area_places, numbers_of, taken, taken_by_class}
 use Rattle.area_ops.specs.Partials.{PartialValue, StandsFor}
-use Rattle.area_ops.specs.Results.{area_outcome}
-use Rattle.area_ops.specs.inside.Tallies.{IsTally, AreTallies, no_tally, place_tally, seen_from, tally_in, tally_join, number_tally, tally_of_one, tally_of_option, tally_outcome, tally_result}
-use Rattle.area_ops.proofs.TallyLemmas.{count-tally_join, result_of_tally, same_tally, number_tally-append}
+use Rattle.area_ops.specs.Frequency.{occurrences}
+use Rattle.area_ops.specs.Results.{area_outcome, area_result}
+use Rattle.area_ops.specs.inside.Counts.{Member, count_in, is_counted}
+use Rattle.area_ops.specs.inside.Leaders.{outcome_by, result_in}
+use Rattle.area_ops.specs.inside.Tallies.{IsTally, AreTallies, no_tally, place_tally, seen_from, tally_in, tally_join, number_tally, tally_of_one, tally_of_option, tally_result}
+use Rattle.area_ops.proofs.CountLemmas.{merged_count}
+use Rattle.area_ops.proofs.TallyLemmas.{count-tally_join, result_of_found, result_of_tally, same_tally, number_tally-append}
 use Rattle.std.proofs.lemmas.Int.{ints}
 
 -- the tally of what is taken from one place
@@ -73,12 +79,24 @@ merged-tallies op xs ys class =
     ap number_tally (filter_map-append (λ (q : AreaPlace). taken_by_class op class q.value q.area) xs ys)
     ∙ number_tally-append (numbers_of op xs class) (numbers_of op ys class)
 
--- the outcomes of the tallies are those of the places that they stand for
-pub outcome_of_tallies : (partial : PartialValue) (places : List AreaPlace) → StandsFor partial places →
-    (class : Cell) → tally_outcome partial.op (tally_in partial.tallies) class ≡ area_outcome partial.op places class
-outcome_of_tallies partial places stands Mv = refl
-outcome_of_tallies partial places stands (Val class) =
-    ap (tally_result partial.op) (stands.tallies class) ∙ sym (result_of_tally partial.op (numbers_of partial.op places class))
+-- the results of the tallies are those of the places that they stand for
+pub results_of_tallies : (partial : PartialValue) (places : List AreaPlace) → StandsFor partial places → is_counted partial.op ≡ false → (class : ℤ) →
+    unwrap_or (option_map (tally_result partial.op) (lookup (λ own. int_eq class own) partial.tallies)) (Ok Mv) ≡ area_result partial.op (numbers_of partial.op places class)
+unfolding tally_in
+results_of_tallies partial places stands plain class =
+    result_of_found partial.op (lookup (λ own. int_eq class own) partial.tallies)
+    ∙ (ap (tally_result partial.op) (stands.tallies plain class) ∙ sym (result_of_tally partial.op (numbers_of partial.op places class) plain))
+
+-- the result of a class, by what is found for it
+pub result_found : (results : List (ℤ × Outcome)) (class : ℤ) (o : Option Outcome) → lookup (λ own. int_eq class own) results ≡ o → result_in results class ≡ unwrap_or o (Ok Mv)
+unfolding result_in
+result_found results class o e = ap (λ (x : Option Outcome). unwrap_or x (Ok Mv)) e
+
+-- outcomes by the results of the classes
+pub outcome_of_results : (op : AreaOp) (places : List AreaPlace) (results : List (ℤ × Outcome)) → ((class : ℤ) → result_in results class ≡ area_result op (numbers_of op places class)) →
+    (class : Cell) → outcome_by results class ≡ area_outcome op places class
+outcome_of_results op places results h Mv = refl
+outcome_of_results op places results h (Val class) = h class
 
 -- parts of outcomes that are alike
 same_cells : (f g : ℕ → Outcome) (n : ℕ) → ((i : ℕ) → f i ≡ g i) → tabulate (λ i. or_missing (f i)) n ≡ tabulate (λ i. or_missing (g i)) n
@@ -127,12 +145,19 @@ length-area_places values classes (suc n) =
 -- a merged partial stands for the places of both
 pub merged : (p q r : PartialValue) (xs ys : List AreaPlace) → p.op ≡ q.op → r.op ≡ p.op → r.cells ≡ p.cells + q.cells →
     ((class : ℤ) → tally_in r.tallies class ≡ tally_join (tally_in p.tallies class) (tally_in q.tallies class)) →
+    ((m : Member) → count_in r.counts m ≡ count_in p.counts m + count_in q.counts m) →
     StandsFor p xs → StandsFor q ys → StandsFor r (xs ++ ys)
-merged p q r xs ys same kept cells tallies s t = record {
+merged p q r xs ys same kept cells tallies counts s t = record {
   cells = let a = s.cells in let b = t.cells in let c = length-append xs ys in omega (arith, a, b, c, cells);
-  tallies = λ class.
+  tallies = λ plain class.
       tallies class
-      ∙ (ap (λ (u : Tally). tally_join u (tally_in q.tallies class)) (s.tallies class ∙ ap (λ (op : AreaOp). number_tally (numbers_of op xs class)) (sym kept))
-      ∙ (ap (tally_join (number_tally (numbers_of r.op xs class))) (t.tallies class ∙ ap (λ (op : AreaOp). number_tally (numbers_of op ys class)) (sym (kept ∙ same)))
+      ∙ (ap (λ (u : Tally). tally_join u (tally_in q.tallies class)) (s.tallies (ap is_counted (sym kept) ∙ plain) class ∙ ap (λ (op : AreaOp). number_tally (numbers_of op xs class)) (sym kept))
+      ∙ (ap (tally_join (number_tally (numbers_of r.op xs class))) (t.tallies (ap is_counted (sym (kept ∙ same)) ∙ plain) class ∙ ap (λ (op : AreaOp). number_tally (numbers_of op ys class)) (sym (kept ∙ same)))
       ∙ sym (merged-tallies r.op xs ys class)));
+  counts = λ counted class number.
+      let a = s.counts (ap is_counted (sym kept) ∙ counted) class number ∙ ap (λ (op : AreaOp). occurrences (numbers_of op xs class) number) (sym kept) in
+      let b = t.counts (ap is_counted (sym (kept ∙ same)) ∙ counted) class number ∙ ap (λ (op : AreaOp). occurrences (numbers_of op ys class) number) (sym (kept ∙ same)) in
+      let c = merged_count r.op xs ys class number in
+      let d = counts (class, number) in
+      omega (arith, a, b, c, d);
 }

@@ -1,13 +1,17 @@
 -- Tallies of numbers.
-use Rattle.std.proofs.Common.{◌≡◌, ℕ, zero, suc, ◌+◌, ℤ, ◌+ℤ◌, List, [], ◌∷◌, ◌++◌, refl, sym, inl, inr, ap, ◌∙◌, arith}
+use Rattle.std.proofs.Common.{◌≡◌, ℕ, zero, suc, ◌+◌, ℤ, ◌+ℤ◌, false, List, [], ◌∷◌, ◌++◌, refl, sym, inl, inr, ap, ◌∙◌, arith}
+use Rattle.std.specs.Prelude.{Option, Some, None, Ok, option_map}
 use Rattle.std.specs.Int.{int_max, int_min}
+use Rattle.std.specs.Option.{unwrap_or}
 use Rattle.std.proofs.lemmas.Bool.{cases_eq}
 use Rattle.std.proofs.lemmas.Int.{clamps, ints}
 use Rattle.std.proofs.lemmas.List.{append-nil, length-append}
+use Rattle.cell_values.specs.declared.cell.Cell.TheVariants.{Mv}
 use Rattle.area_ops.specs.declared.op.AreaOp.{AreaOp}
-use Rattle.area_ops.specs.declared.op.AreaOp.TheVariants.{Total, Average, Minimum, Maximum, Area}
+use Rattle.area_ops.specs.declared.op.AreaOp.TheVariants.{Total, Average, Minimum, Maximum, Diversity, Majority, Area}
 use Rattle.area_ops.specs.declared.tally.Tally.{Tally}
 use Rattle.area_ops.specs.Results.{area_result, greatest_of, least_of, total_of}
+use Rattle.area_ops.specs.inside.Counts.{is_counted}
 use Rattle.area_ops.specs.inside.Tallies.{IsTally, joined_by, no_tally, tally_join, number_tally, tally_result, tally_sum}
 
 -- joined by counts
@@ -91,18 +95,26 @@ number_tally-append (x ∷ xs) [] = ap (λ (zs : List ℤ). number_tally (x ∷ 
 number_tally-append (x ∷ xs) (y ∷ ys) = same_tally _ _ (length-append (x ∷ xs) (y ∷ ys)) (total_of-append (x ∷ xs) (y ∷ ys)) (least_of-append x xs y ys) (greatest_of-append x xs y ys)
 
 -- what an operation gives of numbers is what it gives of their tally
-pub result_of_tally : (op : AreaOp) (xs : List ℤ) → area_result op xs ≡ tally_result op (number_tally xs)
+pub result_of_tally : (op : AreaOp) (xs : List ℤ) → is_counted op ≡ false → area_result op xs ≡ tally_result op (number_tally xs)
 unfolding area_result number_tally tally_result
-result_of_tally Total [] = refl
-result_of_tally Average [] = refl
-result_of_tally Minimum [] = refl
-result_of_tally Maximum [] = refl
-result_of_tally Area [] = refl
-result_of_tally Total (x ∷ xs) = refl
-result_of_tally Average (x ∷ xs) = refl
-result_of_tally Minimum (x ∷ xs) = refl
-result_of_tally Maximum (x ∷ xs) = refl
-result_of_tally Area (x ∷ xs) = refl
+result_of_tally Total [] plain = refl
+result_of_tally Average [] plain = refl
+result_of_tally Minimum [] plain = refl
+result_of_tally Maximum [] plain = refl
+result_of_tally Diversity xs plain = absurd cc
+result_of_tally Majority xs plain = absurd cc
+result_of_tally Area [] plain = refl
+result_of_tally Total (x ∷ xs) plain = refl
+result_of_tally Average (x ∷ xs) plain = refl
+result_of_tally Minimum (x ∷ xs) plain = refl
+result_of_tally Maximum (x ∷ xs) plain = refl
+result_of_tally Area (x ∷ xs) plain = refl
+
+-- what the tally that was found gives, or a missing value
+pub result_of_found : (op : AreaOp) (o : Option Tally) → unwrap_or (option_map (tally_result op) o) (Ok Mv) ≡ tally_result op (unwrap_or o no_tally)
+unfolding tally_result
+result_of_found op None = refl
+result_of_found op (Some t) = refl
 
 -- two sound tallies give a sound one
 sound-joined_by : (m n : ℕ) (a b : Tally) → m ≡ a.count → n ≡ b.count → IsTally a → IsTally b → IsTally (joined_by m n a b)

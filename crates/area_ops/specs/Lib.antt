@@ -1,4 +1,5 @@
 pub mod Areas
+pub mod Frequency
 pub mod Laws
 pub mod Partials
 pub mod Results

@@ -1,6 +1,8 @@
 -- The results of area operations. Scalars count millionths.
-use Rattle.std.specs.Prelude.{ℤ, pos, ◌+ℤ◌, ◌*ℤ◌, List, [], ◌∷◌, length, Ok}
+use Rattle.std.specs.Prelude.{ℤ, pos, ◌+ℤ◌, ◌*ℤ◌, ◌*◌, List, [], ◌∷◌, length, Ok}
 use Rattle.std.specs.Int.{int_max, int_min}
+use Rattle.std.specs.Ordering.{int_eq}
+use Rattle.std.specs.Set.{distinct_count}
 use Rattle.cell_values.specs.declared.kind.Kind.TheVariants.{Scalar}
 use Rattle.cell_values.specs.declared.cell.Cell.{Cell}
 use Rattle.cell_values.specs.declared.cell.Cell.TheVariants.{Mv, Val}
@@ -9,8 +11,9 @@ use Rattle.cell_values.specs.Rounding.{nearest}
 use Rattle.cell_values.specs.Units.{million}
 use Rattle.tile_map.specs.Parts.{Outcome}
 use Rattle.area_ops.specs.declared.op.AreaOp.{AreaOp}
-use Rattle.area_ops.specs.declared.op.AreaOp.TheVariants.{Total, Average, Minimum, Maximum, Area}
+use Rattle.area_ops.specs.declared.op.AreaOp.TheVariants.{Total, Average, Minimum, Maximum, Diversity, Majority, Area}
 use Rattle.area_ops.specs.Areas.{AreaPlace, numbers_of}
+use Rattle.area_ops.specs.inside.Majority.{most_frequent}
 
 -- the sum of numbers, unbounded
 abbrev pub total_of : List ℤ → ℤ
@@ -34,6 +37,8 @@ area_result Total (x ∷ xs) = cell_of_number Scalar (total_of (x ∷ xs))
 area_result Average (x ∷ xs) = cell_of_number Scalar (nearest (total_of (x ∷ xs)) (length (x ∷ xs)))
 area_result Minimum (x ∷ xs) = Ok (Val (least_of x xs))
 area_result Maximum (x ∷ xs) = Ok (Val (greatest_of x xs))
+area_result Diversity (x ∷ xs) = cell_of_number Scalar (pos (distinct_count int_eq (x ∷ xs) * million))
+area_result Majority (x ∷ xs) = Ok (Val (most_frequent (x ∷ xs) x))
 area_result Area (x ∷ xs) = Ok (Val (pos (length (x ∷ xs)) *ℤ pos million))
 
 -- the outcome at a place of a class, by the places that the areas are made of: a missing value where the class is missing

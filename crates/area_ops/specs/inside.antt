@@ -1,1 +1,4 @@
+pub mod Counts
+pub mod Leaders
+pub mod Majority
 pub mod Tallies

@@ -1,3 +1,6 @@
+ghost use Rattle.std.specs.Prelude.{◌≡◌};
+ghost use Rattle.area_ops.specs.inside.Counts.{is_counted};
+
 /// An operation over the cells of an area.
 #[derive(Clone, Copy, Debug, PartialEq, Eq)]
 pub enum AreaOp {
@@ -9,6 +12,19 @@ pub enum AreaOp {
     Minimum,
     /// The greatest value: `areamaximum`, `mapmaximum`.
     Maximum,
+    /// How many different values there are: `areadiversity`.
+    Diversity,
+    /// The most frequent value, the least of several: `areamajority`.
+    Majority,
     /// How many cells the area has: `areaarea`.
     Area,
+}
+
+impl AreaOp {
+    /// Whether the operation asks how often each number stands in a class.
+    pub(crate) fn is_counted(self) -> bool
+        ensures { result ≡ is_counted self }
+    {
+        matches!(self, AreaOp::Diversity | AreaOp::Majority)
+    }
 }

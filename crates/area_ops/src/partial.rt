@@ -6,12 +6,15 @@ ghost use Rattle.tile_map.specs.Args.{SpansPlaces, arg_cell};
 ghost use Rattle.tile_map.specs.Parts.{part_of};
 ghost use Rattle.area_ops.specs.Areas.{AreaPlace, area_places, numbers_of, taken};
 ghost use Rattle.area_ops.specs.Partials.{StandsFor};
-ghost use Rattle.area_ops.specs.Results.{area_outcome};
-ghost use Rattle.area_ops.specs.inside.Tallies.{AreTallies, IsTally, place_tally, seen_from, tally_at, tally_join, number_tally, tally_outcome};
+ghost use Rattle.area_ops.specs.Results.{area_outcome, area_result};
+ghost use Rattle.area_ops.specs.inside.Leaders.{result_in};
+ghost use Rattle.area_ops.specs.inside.Tallies.{AreTallies, IsTally, place_tally, seen_from, tally_at, tally_join, number_tally};
 
+use crate::counts::{Counts, counts, counts_of_both};
 use crate::op::AreaOp;
+use crate::results::{Results, counted, outcomes, tallied};
 use crate::tally::Tally;
-use cell_values::{Cell, Cells, Over};
+use cell_values::Cell;
 use std::alloc::{AllocError, Global};
 use std::collections::BTreeMap;
 use std::marker::Model;
@@ -24,24 +27,26 @@ pub struct Partial {
     op: AreaOp,
     cells: usize,
     areas: BTreeMap<i64, Tally>,
+    counts: Counts,
 }
 
 impl Model for Partial {
     ghost use Rattle.std.specs.Prelude.{◌≤◌};
     ghost use Rattle.text_base.specs.Limits.{most_cells};
     ghost use Rattle.area_ops.specs.Partials.{PartialValue};
+    ghost use Rattle.area_ops.specs.inside.Counts.{AreCounts};
     ghost use Rattle.area_ops.specs.inside.Tallies.{AreTallies, tally_at};
 
     ghost Value = { PartialValue };
 
-    ghost view = { λ p. record { op = p.op; cells = p.cells; tallies = p.areas.entries } };
+    ghost view = { λ p. record { op = p.op; cells = p.cells; tallies = p.areas.entries; counts = p.counts.entries } };
 
-    ghost invariant = { λ p. (p.cells ≤ most_cells) × AreTallies p.cells (tally_at p.areas) };
+    ghost invariant = { λ p. (p.cells ≤ most_cells) × AreTallies p.cells (tally_at p.areas) × AreCounts p.cells p.counts.entries };
 }
 
 // What an operation takes from a value.
 #[inline(always)]
-fn taken(op: AreaOp, value: Cell) -> Option<i64>
+pub(crate) fn taken(op: AreaOp, value: Cell) -> Option<i64>
     ensures { result ≡ taken op value }
 {
     match (op, value) {
@@ -143,51 +148,6 @@ fn poured(
     Ok(areas)
 }
 
-// What an operation gives at a place of a class.
-fn outcome(areas: &BTreeMap<i64, Tally>, op: AreaOp, area: Cell) -> Result<Cell, Over>
-    requires sound { (class : ℤ) → IsTally (tally_at areas.now class) }
-    requires few { (class : ℤ) → (tally_at areas.now class).count ≤ most_cells }
-    ensures { result ≡ tally_outcome op (tally_at areas.now) area }
-{
-    match area {
-        Cell::Mv => Ok(Cell::Mv),
-        Cell::Val(class) => tally_at(areas, class).result(op),
-    }
-}
-
-// What an operation gives at so many places of classes.
-fn outcomes(
-    alloc: Global,
-    areas: &BTreeMap<i64, Tally>,
-    op: AreaOp,
-    classes: Arg<'_>,
-    len: usize,
-) -> Result<Part, AllocError>
-    requires sound { (class : ℤ) → IsTally (tally_at areas.now class) }
-    requires few { (class : ℤ) → (tally_at areas.now class).count ≤ most_cells }
-    requires len { len ≤ most_cells }
-    requires classes { SpansPlaces classes len }
-    ensures { IfOk result (λ part. part ≡ part_of (λ place. tally_outcome op (tally_at areas.now) (arg_cell classes.entry place)) len) }
-{
-    let mut cells = Vec::with_capacity(alloc, len)?;
-    let mut over = None;
-    for place in 0..len {
-        match outcome(areas, op, classes.at(place)) {
-            Ok(cell) => cells.push(cell)?,
-            Err(_) => {
-                cells.push(Cell::Mv)?;
-                if over.is_none() {
-                    over = Some(place as u32);
-                }
-            }
-        }
-    }
-    Ok(Part {
-        cells: Cells::from_vec(cells),
-        over,
-    })
-}
-
 impl Partial {
     /// The partial of so many places: of their values, and of the classes that they belong to. The number of cells of an
     /// area takes no value, and any operand does.
@@ -204,11 +164,21 @@ impl Partial {
         ensures op { IfOk result (λ partial. partial.op ≡ op) }
         ensures stands { IfOk result (λ partial. StandsFor partial (area_places values.entry classes.entry len)) }
     {
+        if op.is_counted() {
+            let counts = counts(alloc, op, values, classes, len)?;
+            return Ok(Partial {
+                op,
+                cells: len,
+                areas: BTreeMap::new(alloc),
+                counts,
+            });
+        }
         let areas = tallies(alloc, op, values, classes, len)?;
         Ok(Partial {
             op,
             cells: len,
             areas,
+            counts: BTreeMap::new(alloc),
         })
     }
 
@@ -225,9 +195,21 @@ impl Partial {
         ensures refused { OnErr result (self.new ≡ self.old) }
     {
         let areas = poured(alloc, &self.areas, &other.areas)?;
+        let counts = counts_of_both(alloc, &self.counts, &other.counts)?;
         self.areas = areas;
+        self.counts = counts;
         self.cells += other.cells;
         Ok(())
+    }
+
+    // What the operation gives of each class.
+    fn results(&self, alloc: Global) -> Result<Results, AllocError>
+        ensures { (places : List AreaPlace) → StandsFor self.now places → IfOk result (λ results. (class : ℤ) → result_in results.entries class ≡ area_result self.now.op (numbers_of self.now.op places class)) }
+    {
+        if self.op.is_counted() {
+            return counted(alloc, self.op, &self.counts);
+        }
+        tallied(alloc, self.op, &self.areas)
     }
 
     /// The result at each of so many places, by the class of each: the cell, a missing value where the class is missing,
@@ -237,6 +219,6 @@ impl Partial {
         requires classes { SpansPlaces classes len }
         ensures { (places : List AreaPlace) → StandsFor self.now places → IfOk result (λ part. part ≡ part_of (λ place. area_outcome self.now.op places (arg_cell classes.entry place)) len) }
     {
-        outcomes(alloc, &self.areas, self.op, classes, len)
+        outcomes(alloc, &self.results(alloc)?, classes, len)
     }
 }

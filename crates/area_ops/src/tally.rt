@@ -1,14 +1,15 @@
 //! Tallies of numbers.
 
-ghost use Rattle.std.specs.Prelude.{◌≡◌, ◌+◌, ◌≤◌, IfOk};
+ghost use Rattle.std.specs.Prelude.{◌≡◌, ◌+◌, ◌≤◌, false};
 ghost use Rattle.text_base.specs.Limits.{most_cells};
+ghost use Rattle.area_ops.specs.inside.Counts.{is_counted};
 ghost use Rattle.area_ops.specs.inside.Tallies.{IsTally, no_tally, tally_join, tally_of_one, tally_result, tally_sum, tally_value};
 
 use crate::op::AreaOp;
 use cell_values::{Cell, Kind, Over, round_div, to_cell};
 
 /// How many millionths make one.
-const MILLION: i64 = 1_000_000;
+pub const MILLION: i64 = 1_000_000;
 
 /// What is kept of some numbers.
 #[derive(Clone, Copy, Debug)]
@@ -87,6 +88,7 @@ impl Tally {
 
     // What an operation gives of some numbers.
     fn value(self, op: AreaOp) -> Result<Cell, Over>
+        requires op { is_counted op ≡ false }
         requires some { 1 ≤ self.count }
         requires few { self.count ≤ most_cells }
         requires sound { IsTally self }
@@ -97,6 +99,7 @@ impl Tally {
             AreaOp::Average => { to_cell(Kind::Scalar, round_div(self.total, self.count as i128)) }
             AreaOp::Minimum => Ok(Cell::Val(self.least)),
             AreaOp::Maximum => Ok(Cell::Val(self.greatest)),
+            AreaOp::Diversity | AreaOp::Majority => unreachable!(),
             AreaOp::Area => Ok(Cell::Val(self.count as i64 * MILLION)),
         }
     }
@@ -104,6 +107,7 @@ impl Tally {
     /// What an operation gives of the numbers: a missing value where there is none.
     #[tactic(auto, unfolding(crate::specs::inside::Tallies::tally_result))]
     pub fn result(self, op: AreaOp) -> Result<Cell, Over>
+        requires op { is_counted op ≡ false }
         requires few { self.count ≤ most_cells }
         requires sound { IsTally self }
         ensures { result ≡ tally_result op self }

@@ -15,7 +15,7 @@ use Rattle.cell_values.specs.Rounding.{nearest}
 use Rattle.cell_values.specs.Units.{million}
 use Rattle.tile_map.specs.Parts.{Outcome}
 use Rattle.area_ops.specs.declared.op.AreaOp.{AreaOp}
-use Rattle.area_ops.specs.declared.op.AreaOp.TheVariants.{Total, Average, Minimum, Maximum, Area}
+use Rattle.area_ops.specs.declared.op.AreaOp.TheVariants.{Total, Average, Minimum, Maximum, Diversity, Majority, Area}
 use Rattle.area_ops.specs.declared.tally.Tally.{Tally}
 use Rattle.area_ops.specs.Areas.{taken_by_class}
 use Rattle.area_ops.specs.Results.{greatest_of, least_of, total_of}
@@ -73,6 +73,8 @@ tally_value Total t = cell_of_number Scalar t.total
 tally_value Average t = cell_of_number Scalar (nearest t.total t.count)
 tally_value Minimum t = Ok (Val t.least)
 tally_value Maximum t = Ok (Val t.greatest)
+tally_value Diversity t = Ok Mv
+tally_value Majority t = Ok Mv
 tally_value Area t = Ok (Val (pos t.count *ℤ pos million))
 
 -- what an operation gives of a tally, by how many numbers it has
@@ -105,8 +107,3 @@ with_entries class t (e ∷ es) = with_entries class (tally_join t (seen_from cl
 pub record AreTallies (most : ℕ) (tally : ℤ → Tally) : Type 0 where
   pub sound : (class : ℤ) → IsTally (tally class)
   pub few : (class : ℤ) → (tally class).count ≤ most
-
--- what an operation gives at a place of a class, by the tallies of the classes
-abbrev pub tally_outcome : AreaOp → (ℤ → Tally) → Cell → Outcome
-tally_outcome op tally Mv = Ok Mv
-tally_outcome op tally (Val class) = tally_result op (tally class)

@@ -1,0 +1,119 @@
+//! What an operation gives of each class, and of each place by its class.
+
+ghost use Rattle.std.specs.Prelude.{◌≡◌, ℤ, ◌≤◌, List, true, false, option_map, None, IfOk};
+ghost use Rattle.std.specs.BTreeMap.{get};
+ghost use Rattle.std.specs.List.Sorted.{IsStrictlySortedBy};
+ghost use Rattle.std.specs.Map.{keys_of};
+ghost use Rattle.std.specs.Ordering.{int_cmp};
+ghost use Rattle.text_base.specs.Limits.{most_cells};
+ghost use Rattle.tile_map.specs.Args.{SpansPlaces, arg_cell};
+ghost use Rattle.tile_map.specs.Parts.{part_of};
+ghost use Rattle.area_ops.specs.Frequency.{occurrences};
+ghost use Rattle.area_ops.specs.Results.{area_result};
+ghost use Rattle.area_ops.specs.inside.Counts.{AreCounts, count_at, is_counted, member_cmp};
+ghost use Rattle.area_ops.specs.inside.Leaders.{led_by_entries, led_result, outcome_by, result_in};
+ghost use Rattle.area_ops.specs.inside.Tallies.{AreTallies, tally_at, tally_result};
+
+use crate::counts::Counts;
+use crate::leader::Leader;
+use crate::op::AreaOp;
+use crate::tally::Tally;
+use cell_values::{Cell, Cells, Over};
+use std::alloc::{AllocError, Global};
+use std::collections::BTreeMap;
+use tile_map::{Arg, Part};
+
+/// What an operation gives of each class that has numbers.
+pub type Results = BTreeMap<i64, Result<Cell, Over>>;
+
+/// The results by the tallies of the classes.
+pub fn tallied(
+    alloc: Global,
+    op: AreaOp,
+    areas: &BTreeMap<i64, Tally>,
+) -> Result<Results, AllocError>
+    requires op { is_counted op ≡ false }
+    requires sound { AreTallies most_cells (tally_at areas.now) }
+    ensures { IfOk result (λ results. (class : ℤ) → get int_cmp results class ≡ option_map (tally_result op) (get int_cmp areas.now class)) }
+{
+    let mut results = BTreeMap::new(alloc);
+    for (class, tally) in areas {
+        results.insert(*class, tally.result(op))?;
+    }
+    Ok(results)
+}
+
+// The leader of each class, by how often each number stands there.
+fn leaders(alloc: Global, counts: &Counts) -> Result<BTreeMap<i64, Leader>, AllocError>
+    ensures leaders { IfOk result (λ leaders. (class : ℤ) → get int_cmp leaders class ≡ led_by_entries class None counts.now.entries) }
+    ensures ordered { IfOk result (λ leaders. IsStrictlySortedBy member_cmp (keys_of counts.now.entries)) }
+{
+    let mut leaders = BTreeMap::new(alloc);
+    for ((class, number), count) in counts {
+        let leader = Leader::with(leaders.get(class).copied(), *number, *count);
+        leaders.insert(*class, leader)?;
+    }
+    Ok(leaders)
+}
+
+// The results by the leaders of the classes.
+fn led(alloc: Global, op: AreaOp, leaders: &BTreeMap<i64, Leader>) -> Result<Results, AllocError>
+    requires op { is_counted op ≡ true }
+    ensures { IfOk result (λ results. (class : ℤ) → get int_cmp results class ≡ option_map (led_result op) (get int_cmp leaders.now class)) }
+{
+    let mut results = BTreeMap::new(alloc);
+    for (class, leader) in leaders {
+        results.insert(*class, leader.result(op))?;
+    }
+    Ok(results)
+}
+
+/// The results by how often each number stands in each class.
+pub fn counted(alloc: Global, op: AreaOp, counts: &Counts) -> Result<Results, AllocError>
+    requires op { is_counted op ≡ true }
+    requires sound { AreCounts most_cells counts.now.entries }
+    ensures { IfOk result (λ results. (class : ℤ) (numbers : List ℤ) → ((number : ℤ) → count_at counts.now (class, number) ≡ occurrences numbers number) → result_in results.entries class ≡ area_result op numbers) }
+{
+    led(alloc, op, &leaders(alloc, counts)?)
+}
+
+// What the results give at a place of a class.
+#[tactic(auto, unfolding(crate::specs::inside::Leaders::result_in))]
+fn outcome(results: &Results, area: Cell) -> Result<Cell, Over>
+    ensures { result ≡ outcome_by results.now.entries area }
+{
+    match area {
+        Cell::Mv => Ok(Cell::Mv),
+        Cell::Val(class) => results.get(&class).copied().unwrap_or(Ok(Cell::Mv)),
+    }
+}
+
+/// What the results give at so many places of classes.
+pub fn outcomes(
+    alloc: Global,
+    results: &Results,
+    classes: Arg<'_>,
+    len: usize,
+) -> Result<Part, AllocError>
+    requires len { len ≤ most_cells }
+    requires classes { SpansPlaces classes len }
+    ensures { IfOk result (λ part. part ≡ part_of (λ place. outcome_by results.now.entries (arg_cell classes.entry place)) len) }
+{
+    let mut cells = Vec::with_capacity(alloc, len)?;
+    let mut over = None;
+    for place in 0..len {
+        match outcome(results, classes.at(place)) {
+            Ok(cell) => cells.push(cell)?,
+            Err(_) => {
+                cells.push(Cell::Mv)?;
+                if over.is_none() {
+                    over = Some(place as u32);
+                }
+            }
+        }
+    }
+    Ok(Part {
+        cells: Cells::from_vec(cells),
+        over,
+    })
+}
