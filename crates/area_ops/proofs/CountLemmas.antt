@@ -20,7 +20,7 @@ use Rattle.cell_values.specs.declared.cell.Cell.TheVariants.{Mv, Val}
 use Rattle.area_ops.specs.declared.op.AreaOp.{AreaOp}
 use Rattle.area_ops.specs.Areas.{AreaPlace, numbers_of, taken, taken_by_class}
 use Rattle.area_ops.specs.Frequency.{occurrences}
-use Rattle.area_ops.specs.inside.Counts.{AreCounts, Member, count_in, count_of_option, count_seen, member_cmp, place_count}
+use Rattle.area_ops.specs.inside.Counts.{AreCounts, Member, count_in, count_of_option, count_seen, member_cmp, times_given}
 use Rattle.area_ops.proofs.MajorityLemmas.{occurrences-append, occurrences-cons}
 
 -- the order of numbers of classes
@@ -82,8 +82,8 @@ given_by : (op : AreaOp) (value : Cell) (x n : ℤ) (b : Bool) → taken op valu
 given_by op value x n true e = ap (λ (o : Option ℤ). count_of_option o n) e
 given_by op value x n false e = refl
 
-pub count-some : (op : AreaOp) (q : Member) (value : Cell) (own x : ℤ) → taken op value ≡ Some x → place_count op q value (Val own) ≡ count_seen q (own, x) 1
-unfolding place_count
+pub count-some : (op : AreaOp) (q : Member) (value : Cell) (own x : ℤ) → taken op value ≡ Some x → times_given op q value (Val own) ≡ count_seen q (own, x) 1
+unfolding times_given
 count-some op q value own x e =
     given_by op value x q.1 (int_eq own q.0) e
     ∙ ap (λ (b : Bool). if b then 1 else 0) (tied_then (int_cmp own q.0) (int_cmp x q.1))
@@ -92,13 +92,13 @@ none_by : (op : AreaOp) (value : Cell) (n : ℤ) (b : Bool) → taken op value �
 none_by op value n true e = ap (λ (o : Option ℤ). count_of_option o n) e
 none_by op value n false e = refl
 
-pub count-none : (op : AreaOp) (q : Member) (value area : Cell) → taken op value ≡ None → place_count op q value area ≡ 0
-unfolding place_count
+pub count-none : (op : AreaOp) (q : Member) (value area : Cell) → taken op value ≡ None → times_given op q value area ≡ 0
+unfolding times_given
 count-none op q value Mv e = refl
 count-none op q value (Val own) e = none_by op value q.1 (int_eq own q.0) e
 
-pub count-missing : (op : AreaOp) (q : Member) (value : Cell) → place_count op q value Mv ≡ 0
-unfolding place_count
+pub count-missing : (op : AreaOp) (q : Member) (value : Cell) → times_given op q value Mv ≡ 0
+unfolding times_given
 count-missing op q value = refl
 
 -- a place gives a number at most once
@@ -110,8 +110,8 @@ few_count_of : (o : Option ℤ) (n : ℤ) → count_of_option o n ≤ 1
 few_count_of None n = omega arith
 few_count_of (Some x) n = few_option None n (int_eq x n)
 
-pub few-count : (op : AreaOp) (q : Member) (value area : Cell) → place_count op q value area ≤ 1
-unfolding place_count
+pub few-count : (op : AreaOp) (q : Member) (value area : Cell) → times_given op q value area ≤ 1
+unfolding times_given
 few-count op q value area = few_count_of (taken_by_class op q.0 value area) q.1
 
 -- how often a number stands among those of one place
@@ -126,8 +126,8 @@ one_place (Some x) n = occurrences-cons x [] n ∙ once_by (int_eq x n)
 -- how often a number stands in a class over some places and one more
 pub one_more_count : (op : AreaOp) (places : List AreaPlace) (p : AreaPlace) (class number : ℤ) →
     occurrences (numbers_of op (places ++ p ∷ []) class) number
-    ≡ occurrences (numbers_of op places class) number + place_count op (class, number) p.value p.area
-unfolding place_count
+    ≡ occurrences (numbers_of op places class) number + times_given op (class, number) p.value p.area
+unfolding times_given
 one_more_count op places p class number =
     ap (λ (ns : List ℤ). occurrences ns number) (filter_map-append (λ (q : AreaPlace). taken_by_class op class q.value q.area) places (p ∷ []))
     ∙ (occurrences-append (numbers_of op places class) (numbers_of op (p ∷ []) class) number

@@ -25,7 +25,7 @@ use Rattle.area_ops.specs.declared.op.AreaOp.TheVariants.{Total, Average, Minimu
 use Rattle.area_ops.specs.declared.leader.Leader.{Leader}
 use Rattle.area_ops.specs.Frequency.{occurrences}
 use Rattle.area_ops.specs.Results.{area_result}
-use Rattle.area_ops.specs.inside.Counts.{Member, count_in, is_counted, member_cmp}
+use Rattle.area_ops.specs.inside.Counts.{Member, count_in, counts_numbers, member_cmp}
 use Rattle.area_ops.specs.inside.Leaders.{different_of, leader_with, led_by_entries, led_result, next_leader, takes_lead}
 use Rattle.area_ops.specs.inside.Majority.{most_frequent}
 use Rattle.area_ops.proofs.CountLemmas.{is_same}
@@ -278,7 +278,7 @@ different_of_group numbers gs are =
     ∙ distinct_from_list (keys_of gs) numbers are.apart
     (λ q. sym (is_some-lookup (int_eq q) gs) ∙ (some_test (lookup (int_eq q) gs) (are.some q) ∙ ap (nat_lt 0) (are.counts q)))
 
-outcome_of : (op : AreaOp) (first : ℤ) (rest : List ℤ) (leader : Leader) → is_counted op ≡ true → IsFirst (first ∷ rest) leader.number →
+outcome_of : (op : AreaOp) (first : ℤ) (rest : List ℤ) (leader : Leader) → counts_numbers op ≡ true → IsFirst (first ∷ rest) leader.number →
     leader.different ≡ distinct_count int_eq (first ∷ rest) → led_result op leader ≡ area_result op (first ∷ rest)
 unfolding area_result
 outcome_of Diversity first rest leader counted is e = ap (λ (n : ℕ). cell_of_number Scalar (pos (n * million))) e
@@ -303,7 +303,7 @@ nothing_gives Diversity = refl
 nothing_gives Majority = refl
 nothing_gives Area = refl
 
-of_group : (op : AreaOp) (numbers : List ℤ) (gs : List (ℤ × ℕ)) → is_counted op ≡ true → AreGroup numbers gs → or_mv (option_map (led_result op) (lead None gs)) ≡ area_result op numbers
+of_group : (op : AreaOp) (numbers : List ℤ) (gs : List (ℤ × ℕ)) → counts_numbers op ≡ true → AreGroup numbers gs → or_mv (option_map (led_result op) (lead None gs)) ≡ area_result op numbers
 of_group op [] [] counted are = nothing_gives op
 of_group op (first ∷ rest) [] counted are = let e = are.counts first in let some = occurs_at_front first rest in absurd (omega (arith, e, some))
 of_group op [] (g ∷ gs) counted are =
@@ -317,7 +317,7 @@ of_group op (first ∷ rest) (g ∷ gs) counted are =
     outcome_of op first rest leader counted (first_of_group (first ∷ rest) g gs leader are is)
     (let d = is.different in let e = different_of_group (first ∷ rest) (g ∷ gs) are in omega (arith, d, e))
 
-pub led-result : (op : AreaOp) (class : ℤ) (numbers : List ℤ) (es : List (Member × ℕ)) → is_counted op ≡ true → IsStrictlySortedBy member_cmp (keys_of es) →
+pub led-result : (op : AreaOp) (class : ℤ) (numbers : List ℤ) (es : List (Member × ℕ)) → counts_numbers op ≡ true → IsStrictlySortedBy member_cmp (keys_of es) →
     ((w : ℤ) → count_in es (class, w) ≡ occurrences numbers w) → ((q : Member) (n : ℕ) → lookup (is_at (member_cmp q)) es ≡ Some n → 0 < n) →
     or_mv (option_map (led_result op) (led_by_entries class None es)) ≡ area_result op numbers
 unfolding count_in
@@ -330,7 +330,7 @@ led-result op class numbers es counted sorted counts some =
     })
 
 -- numbers in another order give the same
-pub same_result : (op : AreaOp) (xs ys : List ℤ) → is_counted op ≡ true → ((w : ℤ) → occurrences xs w ≡ occurrences ys w) → area_result op xs ≡ area_result op ys
+pub same_result : (op : AreaOp) (xs ys : List ℤ) → counts_numbers op ≡ true → ((w : ℤ) → occurrences xs w ≡ occurrences ys w) → area_result op xs ≡ area_result op ys
 same_result op [] [] counted same = refl
 same_result op [] (y ∷ ys) counted same = let e = same y in let some = occurs_at_front y ys in absurd (omega (arith, e, some))
 same_result op (x ∷ xs) [] counted same = let e = same x in let some = occurs_at_front x xs in absurd (omega (arith, e, some))

@@ -102,7 +102,7 @@ behind_by : (x w : ℤ) (n : ℕ) (b : Bool) → int_eq x w ≡ b → 0 < cond b
 behind_by x w n true e some = inl (equal_numbers x w e)
 behind_by x w n false e some = inr (omega (arith, some))
 
-occurs_behind : (x w : ℤ) (ys : List ℤ) → 0 < occurrences (x ∷ ys) w → (x ≡ w) ⊎ (0 < occurrences ys w)
+pub occurs_behind : (x w : ℤ) (ys : List ℤ) → 0 < occurrences (x ∷ ys) w → (x ≡ w) ⊎ (0 < occurrences ys w)
 occurs_behind x w ys some = behind_by x w (occurrences ys w) (int_eq x w) refl (subst (λ (n : ℕ). 0 < n) (occurrences-cons x ys w) some)
 
 pub occurs_at_front : (x : ℤ) (ys : List ℤ) → 0 < occurrences (x ∷ ys) x
@@ -110,7 +110,7 @@ occurs_at_front x ys =
     let e = occurrences-cons x ys x ∙ ap (λ (b : Bool). cond b 1 0 + occurrences ys x) (int_eq-same x) in
     omega (arith, e)
 
-occurs_more : (x w : ℤ) (ys : List ℤ) → 0 < occurrences ys w → 0 < occurrences (x ∷ ys) w
+pub occurs_more : (x w : ℤ) (ys : List ℤ) → 0 < occurrences ys w → 0 < occurrences (x ∷ ys) w
 occurs_more x w ys some = let e = occurrences-cons x ys w in omega (arith, some, e)
 
 best_with : (xs : List ℤ) (a y : ℤ) (ys : List ℤ) (next best : ℤ) → IsNotBehind xs next a → IsNotBehind xs next y → (next ≡ a) ⊎ (next ≡ y) →

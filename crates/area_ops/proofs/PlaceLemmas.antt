@@ -19,8 +19,8 @@ use Rattle.area_ops.specs.Areas.{AreaPlace, area_places, numbers_of, taken, take
 use Rattle.area_ops.specs.Partials.{PartialValue, StandsFor}
 use Rattle.area_ops.specs.Frequency.{occurrences}
 use Rattle.area_ops.specs.Results.{area_outcome, area_result}
-use Rattle.area_ops.specs.inside.Counts.{Member, count_in, is_counted}
-use Rattle.area_ops.specs.inside.Leaders.{outcome_by, result_in}
+use Rattle.area_ops.specs.inside.Counts.{Member, count_in, counts_numbers}
+use Rattle.area_ops.specs.inside.Leaders.{place_result, class_result}
 use Rattle.area_ops.specs.inside.Tallies.{IsTally, AreTallies, no_tally, place_tally, seen_from, tally_in, tally_join, number_tally, tally_of_one, tally_of_option, tally_result}
 use Rattle.area_ops.proofs.CountLemmas.{merged_count}
 use Rattle.area_ops.proofs.TallyLemmas.{count-tally_join, result_of_found, result_of_tally, same_tally, number_tally-append}
@@ -80,7 +80,7 @@ merged-tallies op xs ys class =
     ∙ number_tally-append (numbers_of op xs class) (numbers_of op ys class)
 
 -- the results of the tallies are those of the places that they stand for
-pub results_of_tallies : (partial : PartialValue) (places : List AreaPlace) → StandsFor partial places → is_counted partial.op ≡ false → (class : ℤ) →
+pub results_of_tallies : (partial : PartialValue) (places : List AreaPlace) → StandsFor partial places → counts_numbers partial.op ≡ false → (class : ℤ) →
     unwrap_or (option_map (tally_result partial.op) (lookup (λ own. int_eq class own) partial.tallies)) (Ok Mv) ≡ area_result partial.op (numbers_of partial.op places class)
 unfolding tally_in
 results_of_tallies partial places stands plain class =
@@ -88,13 +88,13 @@ results_of_tallies partial places stands plain class =
     ∙ (ap (tally_result partial.op) (stands.tallies plain class) ∙ sym (result_of_tally partial.op (numbers_of partial.op places class) plain))
 
 -- the result of a class, by what is found for it
-pub result_found : (results : List (ℤ × Outcome)) (class : ℤ) (o : Option Outcome) → lookup (λ own. int_eq class own) results ≡ o → result_in results class ≡ unwrap_or o (Ok Mv)
-unfolding result_in
+pub result_found : (results : List (ℤ × Outcome)) (class : ℤ) (o : Option Outcome) → lookup (λ own. int_eq class own) results ≡ o → class_result results class ≡ unwrap_or o (Ok Mv)
+unfolding class_result
 result_found results class o e = ap (λ (x : Option Outcome). unwrap_or x (Ok Mv)) e
 
 -- outcomes by the results of the classes
-pub outcome_of_results : (op : AreaOp) (places : List AreaPlace) (results : List (ℤ × Outcome)) → ((class : ℤ) → result_in results class ≡ area_result op (numbers_of op places class)) →
-    (class : Cell) → outcome_by results class ≡ area_outcome op places class
+pub outcome_of_results : (op : AreaOp) (places : List AreaPlace) (results : List (ℤ × Outcome)) → ((class : ℤ) → class_result results class ≡ area_result op (numbers_of op places class)) →
+    (class : Cell) → place_result results class ≡ area_outcome op places class
 outcome_of_results op places results h Mv = refl
 outcome_of_results op places results h (Val class) = h class
 
@@ -151,12 +151,12 @@ merged p q r xs ys same kept cells tallies counts s t = record {
   cells = let a = s.cells in let b = t.cells in let c = length-append xs ys in omega (arith, a, b, c, cells);
   tallies = λ plain class.
       tallies class
-      ∙ (ap (λ (u : Tally). tally_join u (tally_in q.tallies class)) (s.tallies (ap is_counted (sym kept) ∙ plain) class ∙ ap (λ (op : AreaOp). number_tally (numbers_of op xs class)) (sym kept))
-      ∙ (ap (tally_join (number_tally (numbers_of r.op xs class))) (t.tallies (ap is_counted (sym (kept ∙ same)) ∙ plain) class ∙ ap (λ (op : AreaOp). number_tally (numbers_of op ys class)) (sym (kept ∙ same)))
+      ∙ (ap (λ (u : Tally). tally_join u (tally_in q.tallies class)) (s.tallies (ap counts_numbers (sym kept) ∙ plain) class ∙ ap (λ (op : AreaOp). number_tally (numbers_of op xs class)) (sym kept))
+      ∙ (ap (tally_join (number_tally (numbers_of r.op xs class))) (t.tallies (ap counts_numbers (sym (kept ∙ same)) ∙ plain) class ∙ ap (λ (op : AreaOp). number_tally (numbers_of op ys class)) (sym (kept ∙ same)))
       ∙ sym (merged-tallies r.op xs ys class)));
   counts = λ counted class number.
-      let a = s.counts (ap is_counted (sym kept) ∙ counted) class number ∙ ap (λ (op : AreaOp). occurrences (numbers_of op xs class) number) (sym kept) in
-      let b = t.counts (ap is_counted (sym (kept ∙ same)) ∙ counted) class number ∙ ap (λ (op : AreaOp). occurrences (numbers_of op ys class) number) (sym (kept ∙ same)) in
+      let a = s.counts (ap counts_numbers (sym kept) ∙ counted) class number ∙ ap (λ (op : AreaOp). occurrences (numbers_of op xs class) number) (sym kept) in
+      let b = t.counts (ap counts_numbers (sym (kept ∙ same)) ∙ counted) class number ∙ ap (λ (op : AreaOp). occurrences (numbers_of op ys class) number) (sym (kept ∙ same)) in
       let c = merged_count r.op xs ys class number in
       let d = counts (class, number) in
       omega (arith, a, b, c, d);

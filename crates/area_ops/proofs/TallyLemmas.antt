@@ -11,7 +11,7 @@ use Rattle.area_ops.specs.declared.op.AreaOp.{AreaOp}
 use Rattle.area_ops.specs.declared.op.AreaOp.TheVariants.{Total, Average, Minimum, Maximum, Diversity, Majority, Area}
 use Rattle.area_ops.specs.declared.tally.Tally.{Tally}
 use Rattle.area_ops.specs.Results.{area_result, greatest_of, least_of, total_of}
-use Rattle.area_ops.specs.inside.Counts.{is_counted}
+use Rattle.area_ops.specs.inside.Counts.{counts_numbers}
 use Rattle.area_ops.specs.inside.Tallies.{IsTally, joined_by, no_tally, tally_join, number_tally, tally_result, tally_sum}
 
 -- joined by counts
@@ -95,7 +95,7 @@ number_tally-append (x ∷ xs) [] = ap (λ (zs : List ℤ). number_tally (x ∷ 
 number_tally-append (x ∷ xs) (y ∷ ys) = same_tally _ _ (length-append (x ∷ xs) (y ∷ ys)) (total_of-append (x ∷ xs) (y ∷ ys)) (least_of-append x xs y ys) (greatest_of-append x xs y ys)
 
 -- what an operation gives of numbers is what it gives of their tally
-pub result_of_tally : (op : AreaOp) (xs : List ℤ) → is_counted op ≡ false → area_result op xs ≡ tally_result op (number_tally xs)
+pub result_of_tally : (op : AreaOp) (xs : List ℤ) → counts_numbers op ≡ false → area_result op xs ≡ tally_result op (number_tally xs)
 unfolding area_result number_tally tally_result
 result_of_tally Total [] plain = refl
 result_of_tally Average [] plain = refl

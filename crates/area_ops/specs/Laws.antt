@@ -1,19 +1,34 @@
 -- What holds of all areas.
-use Rattle.std.specs.Prelude.{◌≡◌, ◌↔◌, ℤ, List, ◌∷◌, ◌++◌}
+use Rattle.std.specs.Prelude.{◌≡◌, ◌↔◌, ℕ, ℤ, List, ◌∷◌}
+use Rattle.std.specs.List.{filter_map}
+use Rattle.std.specs.List.Sorted.{IsPermutation}
 use Rattle.cell_values.specs.declared.cell.Cell.{Cell}
+use Rattle.cell_values.specs.declared.cell.Cell.TheVariants.{Val}
+use Rattle.tile_map.specs.declared.arg.Arg.{Arg}
+use Rattle.tile_map.specs.declared.arg.Arg.TheVariants.{One}
+use Rattle.tile_map.specs.Args.{arg_cell}
+use Rattle.tile_map.specs.Parts.{tabulate}
 use Rattle.area_ops.specs.declared.op.AreaOp.{AreaOp}
-use Rattle.area_ops.specs.Areas.{AreaPlace}
+use Rattle.area_ops.specs.Areas.{AreaPlace, area_places, numbers_of, taken}
 use Rattle.area_ops.specs.Frequency.{IsMostFrequent}
+use Rattle.area_ops.specs.Partials.{PartialValue, StandsFor}
 use Rattle.area_ops.specs.Results.{area_outcome}
 use Rattle.area_ops.specs.inside.Majority.{most_frequent}
 
--- where two parts of a map that stand side by side are exchanged, each class has the outcome that it had
+-- the same places in another order give each class the same outcome, and a partial that stands for them stands for them so
 abbrev pub OrderDoesNotMatter : Type 0
 OrderDoesNotMatter =
-    (op : AreaOp) (before xs ys behind : List AreaPlace) (class : Cell) →
-    area_outcome op (before ++ (xs ++ ys) ++ behind) class ≡ area_outcome op (before ++ (ys ++ xs) ++ behind) class
+    (xs ys : List AreaPlace) → IsPermutation xs ys →
+    ((op : AreaOp) (class : Cell) → area_outcome op xs class ≡ area_outcome op ys class)
+    × ((partial : PartialValue) → StandsFor partial xs → StandsFor partial ys)
 
 -- the majority of numbers is their most frequent one, the least of several, and no other number is
 abbrev pub MajorityIsMostFrequent : Type 0
 MajorityIsMostFrequent =
     (first : ℤ) (rest : List ℤ) (number : ℤ) → IsMostFrequent (first ∷ rest) number ↔ (number ≡ most_frequent (first ∷ rest) first)
+
+-- where each place has the same class, its numbers are what the operation takes from all cells: a map is one area
+abbrev pub MapIsOneArea : Type 0
+MapIsOneArea =
+    (op : AreaOp) (values : Arg) (class : ℤ) (places : ℕ) →
+    numbers_of op (area_places values (One (Val class)) places) class ≡ filter_map (taken op) (tabulate (arg_cell values) places)

@@ -4,7 +4,7 @@ use Rattle.area_ops.specs.declared.op.AreaOp.{AreaOp}
 use Rattle.area_ops.specs.declared.tally.Tally.{Tally}
 use Rattle.area_ops.specs.Areas.{AreaPlace, numbers_of}
 use Rattle.area_ops.specs.Frequency.{occurrences}
-use Rattle.area_ops.specs.inside.Counts.{Member, count_in, is_counted}
+use Rattle.area_ops.specs.inside.Counts.{Member, count_in, counts_numbers}
 use Rattle.area_ops.specs.inside.Tallies.{tally_in, number_tally}
 
 -- a partial by its operation, the number of its cells, the tallies of classes, and the counts of numbers of classes
@@ -17,6 +17,7 @@ pub record PartialValue : Type 0 where
 -- the partial is that of these places: of so many, with what its operation needs of the numbers of each class
 pub record StandsFor (partial : PartialValue) (places : List AreaPlace) : Type 0 where
   pub cells : partial.cells ≡ length places
-  pub tallies : is_counted partial.op ≡ false → (class : ℤ) → tally_in partial.tallies class ≡ number_tally (numbers_of partial.op places class)
-  pub counts : is_counted partial.op ≡ true → (class number : ℤ) →
+  pub tallies : counts_numbers partial.op ≡ false → (class : ℤ) →
+      tally_in partial.tallies class ≡ number_tally (numbers_of partial.op places class)
+  pub counts : counts_numbers partial.op ≡ true → (class number : ℤ) →
       count_in partial.counts (class, number) ≡ occurrences (numbers_of partial.op places class) number

@@ -5,7 +5,7 @@ ghost use Rattle.text_base.specs.Limits.{most_cells};
 ghost use Rattle.tile_map.specs.Args.{SpansPlaces};
 ghost use Rattle.area_ops.specs.Areas.{area_places, numbers_of};
 ghost use Rattle.area_ops.specs.Frequency.{occurrences};
-ghost use Rattle.area_ops.specs.inside.Counts.{AreCounts, Member, count_at, count_seen, place_count};
+ghost use Rattle.area_ops.specs.inside.Counts.{AreCounts, Member, count_at, count_seen, times_given};
 
 use crate::op::AreaOp;
 use crate::partial::taken;
@@ -42,7 +42,7 @@ fn add_count(counts: &mut Counts, member: (i64, i64), more: u32) -> Result<(), A
 fn count_place(counts: &mut Counts, op: AreaOp, value: Cell, area: Cell) -> Result<(), AllocError>
     requires old { AreCounts most_cells counts.old.entries }
     requires few { (own : Member) → count_at counts.old own + 1 ≤ most_cells }
-    ensures counts { OnOk result ((own : Member) → count_at counts.new own ≡ count_at counts.old own + place_count op own value area) }
+    ensures counts { OnOk result ((own : Member) → count_at counts.new own ≡ count_at counts.old own + times_given op own value area) }
     ensures sound { OnOk result (AreCounts most_cells counts.new.entries) }
 {
     match (area, taken(op, value)) {

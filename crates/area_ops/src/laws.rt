@@ -1,10 +1,10 @@
 //! What holds of all areas.
 
-ghost use Rattle.area_ops.specs.Laws.{MajorityIsMostFrequent, OrderDoesNotMatter};
+ghost use Rattle.area_ops.specs.Laws.{MajorityIsMostFrequent, MapIsOneArea, OrderDoesNotMatter};
 
-/// The order of the parts of a map does not matter: where two of them that stand side by side are exchanged, each class has
-/// the outcome that it had.
-pub fn the_order_of_parts_does_not_matter()
+/// The order of places does not matter: the same places in another order give each class the same outcome, and a partial of
+/// them is a partial of them in that order. So partials of the parts of a map, merged in any order, are that of the map.
+pub fn the_order_of_places_does_not_matter()
     ensures { OrderDoesNotMatter }
 {}
 
@@ -12,4 +12,9 @@ pub fn the_order_of_parts_does_not_matter()
 /// as frequent.
 pub fn a_majority_is_the_most_frequent()
     ensures { MajorityIsMostFrequent }
+{}
+
+/// A map is one area: where the operand of the classes is one cell, the numbers of its class are those of all cells of the map.
+pub fn a_map_is_one_area()
+    ensures { MapIsOneArea }
 {}

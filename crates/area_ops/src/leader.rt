@@ -1,7 +1,7 @@
 //! The leaders of classes.
 
 ghost use Rattle.std.specs.Prelude.{◌≡◌, ◌<◌, ◌^◌, true};
-ghost use Rattle.area_ops.specs.inside.Counts.{is_counted};
+ghost use Rattle.area_ops.specs.inside.Counts.{counts_numbers};
 ghost use Rattle.area_ops.specs.inside.Leaders.{different_of, leader_with, led_result, next_leader};
 
 use crate::op::AreaOp;
@@ -54,7 +54,7 @@ impl Leader {
 
     /// What an operation that counts gives of the class.
     pub fn result(self, op: AreaOp) -> Result<Cell, Over>
-        requires { is_counted op ≡ true }
+        requires { counts_numbers op ≡ true }
         ensures { result ≡ led_result op self }
     {
         match op {

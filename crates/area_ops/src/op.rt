@@ -1,5 +1,5 @@
 ghost use Rattle.std.specs.Prelude.{◌≡◌};
-ghost use Rattle.area_ops.specs.inside.Counts.{is_counted};
+ghost use Rattle.area_ops.specs.inside.Counts.{counts_numbers};
 
 /// An operation over the cells of an area.
 #[derive(Clone, Copy, Debug, PartialEq, Eq)]
@@ -22,8 +22,8 @@ pub enum AreaOp {
 
 impl AreaOp {
     /// Whether the operation asks how often each number stands in a class.
-    pub(crate) fn is_counted(self) -> bool
-        ensures { result ≡ is_counted self }
+    pub(crate) fn counts_numbers(self) -> bool
+        ensures { result ≡ counts_numbers self }
     {
         matches!(self, AreaOp::Diversity | AreaOp::Majority)
     }

@@ -7,7 +7,7 @@ ghost use Rattle.tile_map.specs.Parts.{part_of};
 ghost use Rattle.area_ops.specs.Areas.{AreaPlace, area_places, numbers_of, taken};
 ghost use Rattle.area_ops.specs.Partials.{StandsFor};
 ghost use Rattle.area_ops.specs.Results.{area_outcome, area_result};
-ghost use Rattle.area_ops.specs.inside.Leaders.{result_in};
+ghost use Rattle.area_ops.specs.inside.Leaders.{class_result};
 ghost use Rattle.area_ops.specs.inside.Tallies.{AreTallies, IsTally, place_tally, seen_from, tally_at, tally_join, number_tally};
 
 use crate::counts::{Counts, counts, counts_of_both};
@@ -164,7 +164,7 @@ impl Partial {
         ensures op { IfOk result (λ partial. partial.op ≡ op) }
         ensures stands { IfOk result (λ partial. StandsFor partial (area_places values.entry classes.entry len)) }
     {
-        if op.is_counted() {
+        if op.counts_numbers() {
             let counts = counts(alloc, op, values, classes, len)?;
             return Ok(Partial {
                 op,
@@ -204,9 +204,9 @@ impl Partial {
 
     // What the operation gives of each class.
     fn results(&self, alloc: Global) -> Result<Results, AllocError>
-        ensures { (places : List AreaPlace) → StandsFor self.now places → IfOk result (λ results. (class : ℤ) → result_in results.entries class ≡ area_result self.now.op (numbers_of self.now.op places class)) }
+        ensures { (places : List AreaPlace) → StandsFor self.now places → IfOk result (λ results. (class : ℤ) → class_result results.entries class ≡ area_result self.now.op (numbers_of self.now.op places class)) }
     {
-        if self.op.is_counted() {
+        if self.op.counts_numbers() {
             return counted(alloc, self.op, &self.counts);
         }
         tallied(alloc, self.op, &self.areas)

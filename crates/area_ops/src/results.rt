@@ -10,8 +10,8 @@ ghost use Rattle.tile_map.specs.Args.{SpansPlaces, arg_cell};
 ghost use Rattle.tile_map.specs.Parts.{part_of};
 ghost use Rattle.area_ops.specs.Frequency.{occurrences};
 ghost use Rattle.area_ops.specs.Results.{area_result};
-ghost use Rattle.area_ops.specs.inside.Counts.{AreCounts, count_at, is_counted, member_cmp};
-ghost use Rattle.area_ops.specs.inside.Leaders.{led_by_entries, led_result, outcome_by, result_in};
+ghost use Rattle.area_ops.specs.inside.Counts.{AreCounts, count_at, counts_numbers, member_cmp};
+ghost use Rattle.area_ops.specs.inside.Leaders.{led_by_entries, led_result, place_result, class_result};
 ghost use Rattle.area_ops.specs.inside.Tallies.{AreTallies, tally_at, tally_result};
 
 use crate::counts::Counts;
@@ -32,7 +32,7 @@ pub fn tallied(
     op: AreaOp,
     areas: &BTreeMap<i64, Tally>,
 ) -> Result<Results, AllocError>
-    requires op { is_counted op ≡ false }
+    requires op { counts_numbers op ≡ false }
     requires sound { AreTallies most_cells (tally_at areas.now) }
     ensures { IfOk result (λ results. (class : ℤ) → get int_cmp results class ≡ option_map (tally_result op) (get int_cmp areas.now class)) }
 {
@@ -58,7 +58,7 @@ fn leaders(alloc: Global, counts: &Counts) -> Result<BTreeMap<i64, Leader>, Allo
 
 // The results by the leaders of the classes.
 fn led(alloc: Global, op: AreaOp, leaders: &BTreeMap<i64, Leader>) -> Result<Results, AllocError>
-    requires op { is_counted op ≡ true }
+    requires op { counts_numbers op ≡ true }
     ensures { IfOk result (λ results. (class : ℤ) → get int_cmp results class ≡ option_map (led_result op) (get int_cmp leaders.now class)) }
 {
     let mut results = BTreeMap::new(alloc);
@@ -70,17 +70,17 @@ fn led(alloc: Global, op: AreaOp, leaders: &BTreeMap<i64, Leader>) -> Result<Res
 
 /// The results by how often each number stands in each class.
 pub fn counted(alloc: Global, op: AreaOp, counts: &Counts) -> Result<Results, AllocError>
-    requires op { is_counted op ≡ true }
+    requires op { counts_numbers op ≡ true }
     requires sound { AreCounts most_cells counts.now.entries }
-    ensures { IfOk result (λ results. (class : ℤ) (numbers : List ℤ) → ((number : ℤ) → count_at counts.now (class, number) ≡ occurrences numbers number) → result_in results.entries class ≡ area_result op numbers) }
+    ensures { IfOk result (λ results. (class : ℤ) (numbers : List ℤ) → ((number : ℤ) → count_at counts.now (class, number) ≡ occurrences numbers number) → class_result results.entries class ≡ area_result op numbers) }
 {
     led(alloc, op, &leaders(alloc, counts)?)
 }
 
 // What the results give at a place of a class.
-#[tactic(auto, unfolding(crate::specs::inside::Leaders::result_in))]
+#[tactic(auto, unfolding(crate::specs::inside::Leaders::class_result))]
 fn outcome(results: &Results, area: Cell) -> Result<Cell, Over>
-    ensures { result ≡ outcome_by results.now.entries area }
+    ensures { result ≡ place_result results.now.entries area }
 {
     match area {
         Cell::Mv => Ok(Cell::Mv),
@@ -97,7 +97,7 @@ pub fn outcomes(
 ) -> Result<Part, AllocError>
     requires len { len ≤ most_cells }
     requires classes { SpansPlaces classes len }
-    ensures { IfOk result (λ part. part ≡ part_of (λ place. outcome_by results.now.entries (arg_cell classes.entry place)) len) }
+    ensures { IfOk result (λ part. part ≡ part_of (λ place. place_result results.now.entries (arg_cell classes.entry place)) len) }
 {
     let mut cells = Vec::with_capacity(alloc, len)?;
     let mut over = None;

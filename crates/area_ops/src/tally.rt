@@ -2,7 +2,7 @@
 
 ghost use Rattle.std.specs.Prelude.{◌≡◌, ◌+◌, ◌≤◌, false};
 ghost use Rattle.text_base.specs.Limits.{most_cells};
-ghost use Rattle.area_ops.specs.inside.Counts.{is_counted};
+ghost use Rattle.area_ops.specs.inside.Counts.{counts_numbers};
 ghost use Rattle.area_ops.specs.inside.Tallies.{IsTally, no_tally, tally_join, tally_of_one, tally_result, tally_sum, tally_value};
 
 use crate::op::AreaOp;
@@ -88,7 +88,7 @@ impl Tally {
 
     // What an operation gives of some numbers.
     fn value(self, op: AreaOp) -> Result<Cell, Over>
-        requires op { is_counted op ≡ false }
+        requires op { counts_numbers op ≡ false }
         requires some { 1 ≤ self.count }
         requires few { self.count ≤ most_cells }
         requires sound { IsTally self }
@@ -107,7 +107,7 @@ impl Tally {
     /// What an operation gives of the numbers: a missing value where there is none.
     #[tactic(auto, unfolding(crate::specs::inside::Tallies::tally_result))]
     pub fn result(self, op: AreaOp) -> Result<Cell, Over>
-        requires op { is_counted op ≡ false }
+        requires op { counts_numbers op ≡ false }
         requires few { self.count ≤ most_cells }
         requires sound { IsTally self }
         ensures { result ≡ tally_result op self }

@@ -11,10 +11,10 @@ use Rattle.area_ops.specs.declared.op.AreaOp.TheVariants.{Diversity, Majority}
 use Rattle.area_ops.specs.Areas.{taken_by_class}
 
 -- the operation asks how often each number stands in a class
-abbrev pub is_counted : AreaOp → Bool
-is_counted Diversity = true
-is_counted Majority = true
-is_counted op = false
+abbrev pub counts_numbers : AreaOp → Bool
+counts_numbers Diversity = true
+counts_numbers Majority = true
+counts_numbers op = false
 
 -- a number of a class: the class, and the number
 abbrev pub Member : Type 0
@@ -42,8 +42,8 @@ count_of_option None number = 0
 count_of_option (Some own) number = if int_eq own number then 1 else 0
 
 -- how often a place gives a number of a class
-unfoldable pub place_count : AreaOp → Member → Cell → Cell → ℕ
-place_count op member value area = count_of_option (taken_by_class op member.0 value area) member.1
+unfoldable pub times_given : AreaOp → Member → Cell → Cell → ℕ
+times_given op member value area = count_of_option (taken_by_class op member.0 value area) member.1
 
 -- each number that has an entry stands there, at most so many times
 pub record AreCounts (most : ℕ) (entries : List (Member × ℕ)) : Type 0 where

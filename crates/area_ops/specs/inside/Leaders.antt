@@ -48,10 +48,10 @@ led_result Diversity leader = cell_of_number Scalar (pos (leader.different * mil
 led_result op leader = Ok (Val leader.number)
 
 -- the outcome of a class among entries, each of a class: a missing value where there is none
-unfoldable pub result_in : List (ℤ × Outcome) → ℤ → Outcome
-result_in entries class = unwrap_or (lookup (λ own. int_eq class own) entries) (Ok Mv)
+unfoldable pub class_result : List (ℤ × Outcome) → ℤ → Outcome
+class_result entries class = unwrap_or (lookup (λ own. int_eq class own) entries) (Ok Mv)
 
 -- what is known of the classes gives at a place of a class: a missing value where the class is missing
-abbrev pub outcome_by : List (ℤ × Outcome) → Cell → Outcome
-outcome_by entries Mv = Ok Mv
-outcome_by entries (Val class) = result_in entries class
+abbrev pub place_result : List (ℤ × Outcome) → Cell → Outcome
+place_result entries Mv = Ok Mv
+place_result entries (Val class) = class_result entries class

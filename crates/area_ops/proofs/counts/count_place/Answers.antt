@@ -1,7 +1,7 @@
 use Rattle.std.proofs.Common.{◌≡◌, ◌+◌, ℤ, ap, sym, ◌∙◌, rules, arith, to_z, of_z, w64, FitsSigned}
 use Rattle.std.proofs.lemmas.Int.{ints}
 use Rattle.std.proofs.lemmas.Result.{on_ok_weaker}
-use Rattle.area_ops.specs.inside.Counts.{count_at, count_seen, place_count}
+use Rattle.area_ops.specs.inside.Counts.{count_at, count_seen, times_given}
 use Rattle.area_ops.proofs.CountLemmas.{count-missing, count-none, count-some}
 use Rattle.area_ops.proofs.counts.count_place.Goals as goal
 
@@ -16,14 +16,14 @@ returns-in-Val-Some-clause-counts c =
     (ap (λ (z : ℤ). count_seen own (z, to_z w64 (of_z w64 c.in-Val-Some.number)) 1) here
     ∙ (ap (λ (z : ℤ). count_seen own (c.in-Val-Some.class, z) 1) same
     ∙ (sym (count-some c.args.op own c.args.value c.in-Val-Some.class c.in-Val-Some.number (sym c.taken.ensures ∙ c.in-Val-Some.is-1))
-    ∙ ap (place_count c.args.op own c.args.value) (sym c.in-Val-Some.is-0))))) c.add_count.ensures.counts
+    ∙ ap (times_given c.args.op own c.args.value) (sym c.in-Val-Some.is-0))))) c.add_count.ensures.counts
 
 pub returns-in_default-clause-counts : goal.returns-in_default-clause-counts
 returns-in_default-clause-counts c = λ own.
-    let e = ap (place_count c.args.op own c.args.value) c.in_default.is-0 ∙ count-none c.args.op own c.args.value _ (sym c.taken.ensures ∙ c.in_default.is-1) in
+    let e = ap (times_given c.args.op own c.args.value) c.in_default.is-0 ∙ count-none c.args.op own c.args.value _ (sym c.taken.ensures ∙ c.in_default.is-1) in
     omega (arith, e)
 
 pub returns-in_default-2-clause-counts : goal.returns-in_default-2-clause-counts
 returns-in_default-2-clause-counts c = λ own.
-    let e = ap (place_count c.args.op own c.args.value) c.in_default.is-0 ∙ count-missing c.args.op own c.args.value in
+    let e = ap (times_given c.args.op own c.args.value) c.in_default.is-0 ∙ count-missing c.args.op own c.args.value in
     omega (arith, e)

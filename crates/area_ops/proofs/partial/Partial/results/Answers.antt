@@ -10,12 +10,12 @@ use Rattle.area_ops.specs.inside.Tallies.{tally_result}
 use Rattle.area_ops.proofs.PlaceLemmas.{result_found, results_of_tallies}
 use Rattle.area_ops.proofs.partial.Partial.results.Goals as goal
 
-pub returns-then-is_counted : goal.returns-then-is_counted
-returns-then-is_counted c = λ places stands.
+pub returns-then-counts_numbers : goal.returns-then-counts_numbers
+returns-then-counts_numbers c = λ places stands.
     let same = ap (λ (v : PartialValue). v.op) c.self.view_is in
     let is = subst (λ (v : PartialValue). StandsFor v places) (sym c.self.view_is) stands in
     IfOk-weaker c.counted.result _ _ (λ results h class.
-    h class (numbers_of c.self.inside.op places class) (λ w. is.counts (sym c.is_counted.ensures ∙ c.if-is_counted.true) class w)
+    h class (numbers_of c.self.inside.op places class) (λ w. is.counts (sym c.counts_numbers.ensures ∙ c.if-counts_numbers.true) class w)
     ∙ ap (λ op. area_result op (numbers_of op places class)) same) c.counted.ensures
 
 pub returns : goal.returns
@@ -25,5 +25,5 @@ returns c = λ places stands.
     let is = subst (λ (v : PartialValue). StandsFor v places) (sym c.self.view_is) stands in
     IfOk-weaker c.tallied.result _ _ (λ results h class.
     result_found results.entries class (option_map (tally_result c.self.inside.op) (get int_cmp c.self.inside.areas class)) (h class)
-    ∙ (results_of_tallies p places is (sym c.is_counted.ensures ∙ c.if-is_counted.false) class
+    ∙ (results_of_tallies p places is (sym c.counts_numbers.ensures ∙ c.if-counts_numbers.false) class
     ∙ ap (λ op. area_result op (numbers_of op places class)) same)) c.tallied.ensures
