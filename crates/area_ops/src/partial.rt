@@ -162,6 +162,7 @@ impl Partial {
         requires values { SpansPlaces values len }
         requires classes { SpansPlaces classes len }
         ensures op { IfOk result (λ partial. partial.op ≡ op) }
+        ensures cells { IfOk result (λ partial. partial.cells ≡ len) }
         ensures stands { IfOk result (λ partial. StandsFor partial (area_places values.entry classes.entry len)) }
     {
         if op.counts_numbers() {
