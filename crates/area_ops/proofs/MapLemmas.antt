@@ -25,7 +25,7 @@ same_number k q e = (Decides-int_eq k q).0 e
 abbrev found_or_none : Option Tally → Tally
 found_or_none o = unwrap_or o no_tally
 
-at_found : (m : BTreeMap ℤ Tally) (q : ℤ) → tally_at m q ≡ found_or_none (get int_cmp m q)
+pub at_found : (m : BTreeMap ℤ Tally) (q : ℤ) → tally_at m q ≡ found_or_none (get int_cmp m q)
 unfolding tally_in
 at_found m q = refl
 
@@ -35,20 +35,14 @@ added_by : (old : BTreeMap ℤ Tally) (k q : ℤ) (more : Tally) (b : Bool) → 
 added_by old k q more true e = ap (λ (z : ℤ). tally_join (tally_at old z) more) (same_number k q e)
 added_by old k q more false e = sym (at_found old q) ∙ sym (join_none (tally_at old q) no_tally refl)
 
--- a map into which a class's tally was put, joined with another one
-pub added : (old new : BTreeMap ℤ Tally) (k : ℤ) (more : Tally) →
-    ((q : ℤ) → get int_cmp new q ≡ cond (int_eq k q) (Some (tally_join (tally_at old k) more)) (get int_cmp old q)) →
-    (q : ℤ) → tally_at new q ≡ tally_join (tally_at old q) (seen_from q k more)
-unfolding seen_from
-added old new k more h q = at_found new q ∙ (ap found_or_none (h q) ∙ added_by old k q more (int_eq k q) refl)
-
--- the same where the class was cast
-pub added_at : (old new : BTreeMap ℤ Tally) (k l : ℤ) (t more : Tally) → l ≡ k →
-    ((q : ℤ) → get int_cmp new q ≡ cond (int_eq l q) (Some t) (get int_cmp old q)) → t ≡ tally_join (tally_at old l) more →
-    (q : ℤ) → tally_at new q ≡ tally_join (tally_at old q) (seen_from q k more)
-added_at old new k l t more same h e q =
-    added old new l more (λ r. h r ∙ ap (λ (u : Tally). cond (int_eq l r) (Some u) (get int_cmp old r)) e) q
-    ∙ ap (λ (z : ℤ). tally_join (tally_at old q) (seen_from q z more)) same
+-- a map into which a class's tally was put, joined with another one: what another class has there, by the entries
+pub added_in : (old : BTreeMap ℤ Tally) (es : List (ℤ × Tally)) (k l : ℤ) (t more : Tally) (q : ℤ) → l ≡ k → t ≡ tally_join (tally_at old l) more →
+    lookup (λ own. int_eq q own) es ≡ cond (int_eq l q) (Some t) (get int_cmp old q) → tally_in es q ≡ tally_join (tally_at old q) (seen_from q k more)
+unfolding tally_in seen_from
+added_in old es k l t more q same e h =
+    ap found_or_none h
+    ∙ (ap (λ (u : Tally). found_or_none (cond (int_eq l q) (Some u) (get int_cmp old q))) e
+    ∙ (added_by old l q more (int_eq l q) refl ∙ ap (λ (z : ℤ). tally_join (tally_at old q) (if int_eq z q then more else no_tally)) same))
 
 -- further entries take away no number
 pub grows : (class : ℤ) (t : Tally) (es : List (ℤ × Tally)) → t.count ≤ (with_entries class t es).count

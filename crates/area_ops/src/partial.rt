@@ -56,14 +56,6 @@ pub(crate) fn taken(op: AreaOp, value: Cell) -> Option<i64>
     }
 }
 
-// The tally of a class.
-#[tactic(auto, unfolding(crate::specs::inside::Tallies::tally_in))]
-fn tally_at(areas: &BTreeMap<i64, Tally>, class: i64) -> Tally
-    ensures { result ≡ tally_at areas.now class }
-{
-    areas.get(&class).copied().unwrap_or(Tally::none())
-}
-
 // Adds a tally to that of a class.
 fn add(areas: &mut BTreeMap<i64, Tally>, class: i64, more: Tally) -> Result<(), AllocError>
     requires old { (own : ℤ) → IsTally (tally_at areas.old own) }
@@ -72,8 +64,8 @@ fn add(areas: &mut BTreeMap<i64, Tally>, class: i64, more: Tally) -> Result<(), 
     ensures tallies { OnOk result ((own : ℤ) → tally_at areas.new own ≡ tally_join (tally_at areas.old own) (seen_from own class more)) }
     ensures sound { OnOk result ((own : ℤ) → IsTally (tally_at areas.new own)) }
 {
-    let tally = tally_at(areas, class).join(more);
-    areas.insert(class, tally)?;
+    let tally = areas.entry(class)?.or_insert(Tally::none());
+    *tally = tally.join(more);
     Ok(())
 }
 
