@@ -1,0 +1,9 @@
+pub mod Grid
+pub mod OutcomeLemmas
+pub mod WindowLemmas
+pub mod ExtremeLemmas
+pub mod SumLemmas
+pub mod ClassLemmas
+pub mod AroundLemmas
+pub mod MajorityLemmas
+pub mod OneCellLemmas

@@ -1,0 +1,126 @@
+-- The sums of windows.
+use Rattle.std.proofs.Common.{◌≡◌, ℕ, ◌+◌, ◌-◌, ◌*◌, ◌<◌, ◌≤◌, List, [], ◌∷◌, length, min, fold, map, slice_range, refl, sym, ap, subst, ◌∙◌, arith, ℤ, pos, ◌+ℤ◌}
+use Rattle.std.specs.Prelude.{◌==◌, Bool, false, Ok, if◌then◌else◌}
+use Rattle.std.proofs.lemmas.Bool.Decides.{nat_tests}
+use Rattle.std.proofs.lemmas.Int.{ints}
+use Rattle.std.specs.List.{range_with_len}
+use Rattle.std.proofs.lemmas.List.{length-map, get_or-map, same_lists, get_or_default}
+use Rattle.std.proofs.lemmas.List.Edits.{length-between, get_or-between}
+use Rattle.std.proofs.lemmas.List.FromFn.{length-map-range_with_len, get_or-map-range_with_len}
+use Rattle.cell_values.specs.declared.cell.Cell.{Cell}
+use Rattle.cell_values.specs.declared.cell.Cell.TheVariants.{Mv, Val}
+use Rattle.tile_map.specs.declared.rect.Rect.{Rect}
+use Rattle.tile_map.specs.Cuts.{cell_at, cut_of}
+use Rattle.tile_map.specs.Parts.{Outcome}
+use Rattle.tile_map.specs.Rects.{IsInMap, place_in}
+use Rattle.tile_map.proofs.Callers.{get_or-cut_of, length-cut_of}
+use Rattle.window_ops.specs.declared.sums.Sum.{Sum}
+use Rattle.window_ops.specs.declared.sums.Summed.{Summed}
+use Rattle.window_ops.specs.declared.sums.Summed.TheVariants.{All, Mean}
+use Rattle.window_ops.specs.Results.{window_result, windowtotal_of}
+use Rattle.window_ops.specs.Windows.{present_values, window_outcome}
+use Rattle.window_ops.specs.inside.Outcomes.{over}
+use Rattle.window_ops.specs.inside.Sums.{IsSmall, no_sum, outcome_of_sum, outcome_of_values_sum, sum_at, sum_join, sum_of_cell, sum_op_of}
+use Rattle.window_ops.proofs.Grid.{IsUnordered, over-list, over-same}
+use Rattle.window_ops.proofs.WindowLemmas.{fold-columns, place-window, window_at}
+
+-- ---- sums
+
+-- a sum by its parts
+made : (a b : ℤ) (m n : ℕ) → a ≡ b → m ≡ n → (let s : Sum = record { total = a; count = m } in s) ≡ (let s : Sum = record { total = b; count = n } in s)
+made a b m n e d = ap (λ (x : ℤ). let s : Sum = record { total = x; count = m } in s) e ∙ ap (λ (x : ℕ). let s : Sum = record { total = b; count = x } in s) d
+
+-- the order of sums does not matter for their sum
+pub unordered : IsUnordered Sum sum_join no_sum
+unordered = record {
+  group = λ a b c. made ((a.total +ℤ b.total) +ℤ c.total) (a.total +ℤ (b.total +ℤ c.total)) (a.count + b.count + c.count) (a.count + (b.count + c.count)) (omega (arith, ints)) (omega arith);
+  turn = λ a b. made (a.total +ℤ b.total) (b.total +ℤ a.total) (a.count + b.count) (b.count + a.count) (omega (arith, ints)) (omega arith);
+  none_left = λ a. made (pos 0 +ℤ a.total) a.total (0 + a.count) a.count (omega (arith, ints)) (omega arith);
+}
+
+-- the sum of cells is that of their values
+fold-cells : (a : ℤ) (n : ℕ) (cells : List Cell) → fold sum_join (let s : Sum = record { total = a; count = n } in s) (map sum_of_cell cells) ≡ (let s : Sum = record { total = fold ◌+ℤ◌ a (present_values cells); count = n + length (present_values cells) } in s)
+fold-cells a n [] = made a a n (n + 0) refl (omega arith)
+fold-cells a n (Mv ∷ cells) =
+    ap (λ (s : Sum). fold sum_join s (map sum_of_cell cells)) (made (a +ℤ pos 0) a (n + 0) n (omega (arith, ints)) (omega arith))
+    ∙ fold-cells a n cells
+fold-cells a n (Val v ∷ cells) =
+    fold-cells (a +ℤ v) (n + 1) cells
+    ∙ made (fold ◌+ℤ◌ (a +ℤ v) (present_values cells)) (fold ◌+ℤ◌ (a +ℤ v) (present_values cells)) (n + 1 + length (present_values cells)) (n + length (v ∷ present_values cells)) refl (omega arith)
+
+-- the sum of values
+abbrev sum_of : List ℤ → Sum
+sum_of values = record { total = windowtotal_of values; count = length values }
+
+fold-cells-none : (cells : List Cell) → fold sum_join no_sum (map sum_of_cell cells) ≡ sum_of (present_values cells)
+fold-cells-none cells =
+    fold-cells (pos 0) 0 cells ∙ made (windowtotal_of (present_values cells)) (windowtotal_of (present_values cells)) (0 + length (present_values cells)) (length (present_values cells)) refl (omega arith)
+
+not_zero : (n : ℕ) → 0 < n → (n == 0) ≡ false
+not_zero n some = grind (arith, nat_tests)
+
+-- a sum with values
+counted : (summed : Summed) (sum : Sum) → 0 < sum.count → outcome_of_values_sum summed sum ≡ outcome_of_sum summed sum
+counted summed sum some =
+    ap (λ (b : Bool). let o : Outcome = if b then Ok Mv else outcome_of_values_sum summed sum in o) (sym (not_zero sum.count some))
+
+-- what the operation gives is told by the sum of the values
+outcome-sum : (summed : Summed) (values : List ℤ) → window_result (sum_op_of summed) values ≡ outcome_of_sum summed (sum_of values)
+outcome-sum All [] = refl
+outcome-sum Mean [] = refl
+outcome-sum All (x ∷ xs) = counted All (sum_of (x ∷ xs)) (omega arith)
+outcome-sum Mean (x ∷ xs) = counted Mean (sum_of (x ∷ xs)) (omega arith)
+
+-- ---- bounds
+
+-- one more small sum
+pub small-join : (m : ℕ) (a b : Sum) → IsSmall m a → IsSmall 1 b → IsSmall (m + 1) (sum_join a b)
+small-join m a b few one = record { total = let x = few.total in let y = one.total in omega (arith, ints); count = let x = few.count in let y = one.count in omega arith }
+
+pub small-more : (m n : ℕ) (a : Sum) → m ≤ n → IsSmall m a → IsSmall n a
+small-more m n a less small = record { total = let x = small.total in omega arith; count = let x = small.count in omega arith }
+
+-- ---- sums of windows
+
+-- a part of a list of sums, sum by sum
+between-sums : (sums : List Sum) (a n : ℕ) → a + n ≤ length sums → slice_range sums a (a + n) ≡ map (sum_at sums) (range_with_len a n)
+between-sums sums a n fits =
+    let len : length (slice_range sums a (a + n)) ≡ n = length-between sums a (a + n) fits ∙ omega arith in
+    same_lists (slice_range sums a (a + n)) (map (sum_at sums) (range_with_len a n)) (len ∙ sym (length-map-range_with_len (sum_at sums) a n))
+    (λ k d below.
+    let less : k < n = subst (λ (m : ℕ). k < m) len below in
+    get_or-between sums a (a + n) k d (omega arith)
+    ∙ (get_or_default sums (a + k) d no_sum (omega arith) ∙ sym (get_or-map-range_with_len (sum_at sums) a n k (a + k) d less refl)))
+
+-- the sum of a stretch of columns
+of_stretch : (columns : List Sum) (f : ℕ → Sum) (a n : ℕ) → a + n ≤ length columns → ((col : ℕ) → col < length columns → sum_at columns col ≡ f col) →
+    over sum_join no_sum f a n ≡ fold sum_join no_sum (slice_range columns a (a + n))
+of_stretch columns f a n fits each =
+    over-same sum_join no_sum f (sum_at columns) a a n (λ i below. sym (each (a + i) (omega arith)))
+    ∙ (sym (over-list sum_join no_sum (sum_at columns) a n)
+    ∙ ap (fold sum_join no_sum) (sym (between-sums columns a n fits)))
+
+-- the outcome of a window, by the sums of the columns
+pub sum-window : (summed : Summed) (rows cols k : ℕ) (cells : List Cell) (inner : Rect) (columns : List Sum) (row i : ℕ) → IsInMap rows cols inner → i < inner.cols → length columns ≡ cols →
+    ((col : ℕ) → col < cols → sum_at columns col ≡ over sum_join no_sum (λ r. sum_of_cell (cell_at cells (r * cols + col))) (inner.top + row - k) (min rows (inner.top + row + 1 + k) - (inner.top + row - k))) →
+    window_outcome (sum_op_of summed) rows cols k cells (place_in cols inner (row * inner.cols + i)) ≡ outcome_of_sum summed (fold sum_join no_sum (slice_range columns (inner.left + i - k) (min (length columns) (inner.left + i + 1 + k))))
+unfolding window_outcome
+sum-window summed rows cols k cells inner columns row i in_map below size each =
+    let right = in_map.right in
+    let top = inner.top + row in
+    let left = inner.left + i in
+    let r : Rect = window_at rows cols k top left in
+    let cut : List Cell = cut_of cols cells r in
+    let f : ℕ → Sum = λ c. over sum_join no_sum (λ p. sum_of_cell (cell_at cells (p * cols + c))) r.top r.rows in
+    let end : left - k + r.cols ≡ min (length columns) (left + 1 + k) = omega arith in
+    let fits : left - k + r.cols ≤ length columns = omega arith in
+    ap (λ (w : Rect). window_result (sum_op_of summed) (present_values (cut_of cols cells w))) (place-window rows cols k inner row i in_map below)
+    ∙ (outcome-sum summed (present_values cut)
+    ∙ ap (outcome_of_sum summed)
+    (sym (fold-cells-none cut)
+    ∙ (fold-columns sum_join no_sum unordered sum_of_cell cols cells r (map sum_of_cell cut) (length-map cut sum_of_cell ∙ length-cut_of cols cells r)
+    (λ j less.
+    let shorter : j < length cut = subst (λ (n : ℕ). j < n) (sym (length-cut_of cols cells r)) less in
+    get_or-map sum_of_cell cut j Mv no_sum shorter ∙ ap sum_of_cell (get_or-cut_of cols cells r j Mv less))
+    ∙ (of_stretch columns f (left - k) r.cols fits (λ col less. each col (omega arith))
+    ∙ ap (λ (n : ℕ). fold sum_join no_sum (slice_range columns (left - k) n)) end))))

@@ -1,0 +1,51 @@
+use Rattle.std.proofs.Common.{◌≡◌, ℕ, ◌+◌, ◌-◌, ◌*◌, List, length, sym, ap, subst, ◌∙◌, arith}
+use Rattle.tile_map.specs.Cuts.{cell_at}
+use Rattle.window_ops.specs.declared.sums.Sum.{Sum}
+use Rattle.tile_map.specs.Parts.{Outcome}
+use Rattle.tile_map.specs.Rects.{place_in}
+use Rattle.window_ops.specs.Windows.{window_outcome}
+use Rattle.window_ops.specs.inside.Sums.{no_sum, sum_at, sum_join, sum_of_cell, sum_op_of}
+use Rattle.window_ops.specs.inside.Outcomes.{AreOutcomes, over}
+use Rattle.window_ops.proofs.OutcomeLemmas.{length-outcomes}
+use Rattle.window_ops.proofs.SumLemmas.{sum-window}
+use Rattle.window_ops.proofs.sums.sum_part.Goals as goal
+
+pub loop-row-init : goal.loop-row-init
+loop-row-init c =
+    let f : ℕ → Outcome = λ i. window_outcome (sum_op_of c.args.summed) c.args.rows c.args.cols c.args.k c.args.cells.now (place_in c.args.cols c.args.inner i) in
+    let out = c.in_ok-out.out in
+    let start = c.in_ok-out.ensures f in
+    let none : 0 * c.args.inner.cols ≡ 0 = omega arith in
+    record {
+      size = length-outcomes f 0 out.cells.items out.over start ∙ sym none;
+      each = subst (λ (n : ℕ). AreOutcomes f n out.cells.items out.over) (sym none) start;
+    }
+
+pub loop-row-preserved : goal.loop-row-preserved
+loop-row-preserved c =
+    let e = c.args.summed in
+    let rows = c.args.rows in
+    let cols = c.args.cols in
+    let k = c.args.k in
+    let cells = c.args.cells.now in
+    let inner = c.args.inner in
+    let row = c.loop-row.row in
+    let f : ℕ → Outcome = λ i. window_outcome (sum_op_of e) rows cols k cells (place_in cols inner i) in
+    let out = c.push_row.new.out in
+    let columns = c.deref.result.now in
+    let is = c.deref.ensures.value in
+    let size : length columns ≡ cols = ap length is ∙ c.in_ok-columns.ensures.size in
+    let more : row * inner.cols + inner.cols ≡ (row + 1) * inner.cols = omega arith in
+    let before = c.loop-row.invariant.size in
+    let added = c.in_ok-push_row.ensures.size in
+    record {
+      size = omega arith;
+      each =
+          subst (λ (n : ℕ). AreOutcomes f n out.cells.items out.over) more
+          (c.in_ok-push_row.ensures.each f (row * inner.cols) c.loop-row.invariant.each
+          (λ i below. sum-window e rows cols k cells inner columns row i c.requires.inner below size
+          (λ col less.
+          ap (λ (xs : List Sum). sum_at xs col) is
+          ∙ (c.in_ok-columns.ensures.each col less
+          ∙ ap (λ (p : ℕ × ℕ). over sum_join no_sum (λ r. sum_of_cell (cell_at cells (r * cols + col))) p.0 (p.1 - p.0)) c.reach-top.ensures))));
+    }

@@ -1,0 +1,4 @@
+pub mod Extremes
+pub mod Outcomes
+pub mod Sums
+pub mod Classes

@@ -1,0 +1,25 @@
+-- What is asked of the classes in a window.
+use Rattle.std.specs.Prelude.{ℤ, List, fold, ◌==◌, ◌&&◌, ◌||◌, nat_lt, int_lt, if◌then◌else◌}
+use Rattle.window_ops.specs.Results.{first_of_two, frequency_among}
+use Rattle.window_ops.specs.declared.classes.Ranked.{Ranked}
+use Rattle.window_ops.specs.declared.op.WindowOp.{WindowOp}
+use Rattle.window_ops.specs.declared.op.WindowOp.TheVariants.{Diversity, Majority}
+use Rattle.window_ops.specs.declared.classes.Classed.{Classed}
+use Rattle.window_ops.specs.declared.classes.Classed.TheVariants.{Different, MostFrequent}
+
+-- the operation that asks for it
+abbrev pub class_op_of : Classed → WindowOp
+class_op_of Different = Diversity
+class_op_of MostFrequent = Majority
+
+-- a value with how often it stands among the values
+abbrev pub ranked : List ℤ → ℤ → Ranked
+ranked values value = record { value = value; count = frequency_among values value }
+
+-- the one of two values that is the more frequent one, or the less one of two that are as frequent
+abbrev pub first_ranked : Ranked → Ranked → Ranked
+first_ranked a b = if nat_lt a.count b.count || ((b.count == a.count) && int_lt b.value a.value) then b else a
+
+-- the majority of some values, from a first one on
+abbrev pub majority_from : List ℤ → ℤ → ℤ
+majority_from values first = fold (first_of_two values) first values

@@ -1,0 +1,50 @@
+-- Sums with the number of their values.
+use Rattle.std.specs.Prelude.{ℕ, ◌+◌, ◌*◌, ◌^◌, ◌≤◌, ◌==◌, pos, ◌+ℤ◌, unsigned_abs}
+use Rattle.std.specs.Prelude.{List, get_or, Ok, if◌then◌else◌}
+use Rattle.cell_values.specs.declared.kind.Kind.TheVariants.{Scalar}
+use Rattle.cell_values.specs.declared.cell.Cell.{Cell}
+use Rattle.cell_values.specs.declared.cell.Cell.TheVariants.{Mv, Val}
+use Rattle.cell_values.specs.Kinds.{cell_of_number}
+use Rattle.cell_values.specs.Rounding.{nearest}
+use Rattle.tile_map.specs.Parts.{Outcome}
+use Rattle.window_ops.specs.declared.op.WindowOp.{WindowOp}
+use Rattle.window_ops.specs.declared.op.WindowOp.TheVariants.{Total, Average}
+use Rattle.window_ops.specs.declared.sums.Sum.{Sum}
+use Rattle.window_ops.specs.declared.sums.Summed.{Summed}
+use Rattle.window_ops.specs.declared.sums.Summed.TheVariants.{All, Mean}
+
+-- the sum of no values
+abbrev pub no_sum : Sum
+no_sum = record { total = pos 0; count = 0 }
+
+-- a cell as a sum
+abbrev pub sum_of_cell : Cell → Sum
+sum_of_cell Mv = no_sum
+sum_of_cell (Val value) = record { total = value; count = 1 }
+
+-- two sums as one
+abbrev pub sum_join : Sum → Sum → Sum
+sum_join a b = record { total = a.total +ℤ b.total; count = a.count + b.count }
+
+-- the sum at a place of a list
+abbrev pub sum_at : List Sum → ℕ → Sum
+sum_at sums place = get_or sums place no_sum
+
+-- the sum is one of so many values of 64 bits
+pub record IsSmall (values : ℕ) (sum : Sum) : Type 0 where
+  pub total : unsigned_abs sum.total ≤ values * 2 ^ 63
+  pub count : sum.count ≤ values
+
+-- what an operation gives of a sum with values
+abbrev pub outcome_of_values_sum : Summed → Sum → Outcome
+outcome_of_values_sum All sum = cell_of_number Scalar sum.total
+outcome_of_values_sum Mean sum = cell_of_number Scalar (nearest sum.total sum.count)
+
+-- what an operation gives of a sum
+abbrev pub outcome_of_sum : Summed → Sum → Outcome
+outcome_of_sum summed sum = if sum.count == 0 then Ok Mv else outcome_of_values_sum summed sum
+
+-- the operation that gives a sum or a mean
+abbrev pub sum_op_of : Summed → WindowOp
+sum_op_of All = Total
+sum_op_of Mean = Average
