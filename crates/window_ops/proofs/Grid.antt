@@ -80,3 +80,9 @@ over-list {A} op none f a (suc n) =
     ∙ (ap (fold op none) (map-range_with_len_more f a n (a + n) refl)
     ∙ (fold_push op none (map f (range_with_len a n)) (f (a + n))
     ∙ ap (λ (x : A). op x (f (a + n))) (over-list op none f a n)))
+
+-- the first value and those behind it
+pub over-first : {A : Type 0} (op : A → A → A) (none : A) → IsUnordered A op none → (f : ℕ → A) (a n : ℕ) → over op none f a (1 + n) ≡ op (f a) (over op none f (a + 1) n)
+over-first {A} op none laws f a n =
+    over-parts op none laws f a 1 n
+    ∙ ap (λ (x : A). op x (over op none f (a + 1) n)) (laws.none_left (f (a + 0)) ∙ ap f (let e : a + 0 ≡ a = omega arith in e))

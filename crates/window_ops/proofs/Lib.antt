@@ -3,6 +3,7 @@ pub mod OutcomeLemmas
 pub mod WindowLemmas
 pub mod ExtremeLemmas
 pub mod SumLemmas
+pub mod ColumnLemmas
 pub mod ClassLemmas
 pub mod AroundLemmas
 pub mod MajorityLemmas

@@ -4,8 +4,9 @@ use Rattle.std.specs.Prelude.{◌⊎◌, Bool, true, false, nat_lt, int_lt, ◌=
 use Rattle.std.specs.List.{Contains}
 use Rattle.std.proofs.lemmas.Bool.Decides.{nat_tests}
 use Rattle.std.proofs.lemmas.Int.{ints}
-use Rattle.window_ops.specs.Laws.{MajorityIsMostFrequent}
-use Rattle.window_ops.specs.Results.{IsMajorityAmong, first_of_two, goes_before, frequency_among, windowmajority_of}
+use Rattle.window_ops.specs.Laws.{WindowMajorityIsMostFrequent}
+use Rattle.window_ops.specs.Frequency.{IsMajorityAmong, frequency_among}
+use Rattle.window_ops.specs.inside.Majority.{first_of_two, goes_before, windowmajority_of}
 
 -- a value of some count stands not before another one of some count
 abbrev NotBefore : ℕ → ℤ → ℕ → ℤ → Type 0
@@ -121,7 +122,7 @@ one_majority values a b h d =
     same_by (frequency_among values a) (frequency_among values b) a b (d.most a h.stands) (h.most b d.stands) (d.least a h.stands) (h.least b d.stands)
 
 -- the majority that is found is one, and there is no other
-pub majority_is : MajorityIsMostFrequent
+pub majority_is : WindowMajorityIsMostFrequent
 majority_is first rest value = (
   λ is. one_majority (first ∷ rest) value (windowmajority_of first rest) is (found_is first rest),
   λ e. subst (IsMajorityAmong (first ∷ rest)) (sym e) (found_is first rest),

@@ -1,12 +1,11 @@
 -- The sums of windows.
-use Rattle.std.proofs.Common.{◌≡◌, ℕ, ◌+◌, ◌-◌, ◌*◌, ◌<◌, ◌≤◌, List, [], ◌∷◌, length, min, fold, map, slice_range, refl, sym, ap, subst, ◌∙◌, arith, ℤ, pos, ◌+ℤ◌}
+use Rattle.std.proofs.Common.{◌≡◌, ℕ, zero, suc, ◌+◌, ◌-◌, ◌*◌, ◌<◌, ◌≤◌, List, [], ◌∷◌, ◌++◌, length, get_or, min, fold, map, refl, sym, ap, subst, ◌∙◌, inl, inr, arith, ℤ, pos, ◌+ℤ◌}
 use Rattle.std.specs.Prelude.{◌==◌, Bool, false, Ok, if◌then◌else◌}
 use Rattle.std.proofs.lemmas.Bool.Decides.{nat_tests}
 use Rattle.std.proofs.lemmas.Int.{ints}
-use Rattle.std.specs.List.{range_with_len}
-use Rattle.std.proofs.lemmas.List.{length-map, get_or-map, same_lists, get_or_default}
-use Rattle.std.proofs.lemmas.List.Edits.{length-between, get_or-between}
-use Rattle.std.proofs.lemmas.List.FromFn.{length-map-range_with_len, get_or-map-range_with_len}
+use Rattle.std.proofs.lemmas.Bool.{cases_lt}
+use Rattle.std.proofs.lemmas.List.{length-map, get_or-map, get_or_append_left, get_or_default, get_or_push}
+use Rattle.text_base.specs.Limits.{most_cells}
 use Rattle.cell_values.specs.declared.cell.Cell.{Cell}
 use Rattle.cell_values.specs.declared.cell.Cell.TheVariants.{Mv, Val}
 use Rattle.tile_map.specs.declared.rect.Rect.{Rect}
@@ -19,9 +18,9 @@ use Rattle.window_ops.specs.declared.sums.Summed.{Summed}
 use Rattle.window_ops.specs.declared.sums.Summed.TheVariants.{All, Mean}
 use Rattle.window_ops.specs.Results.{window_result, windowtotal_of}
 use Rattle.window_ops.specs.Windows.{present_values, window_outcome}
-use Rattle.window_ops.specs.inside.Outcomes.{over}
-use Rattle.window_ops.specs.inside.Sums.{IsSmall, no_sum, outcome_of_sum, outcome_of_values_sum, sum_at, sum_join, sum_of_cell, sum_op_of}
-use Rattle.window_ops.proofs.Grid.{IsUnordered, over-list, over-same}
+use Rattle.window_ops.specs.inside.Outcomes.{longest_window, over}
+use Rattle.window_ops.specs.inside.Sums.{IsSmall, column_sum, most_summed, no_sum, outcome_of_sum, outcome_of_values_sum, sum_at, sum_join, sum_of_cell, sum_op_of}
+use Rattle.window_ops.proofs.Grid.{IsUnordered, over-parts, over-same}
 use Rattle.window_ops.proofs.WindowLemmas.{fold-columns, place-window, window_at}
 
 -- ---- sums
@@ -80,30 +79,60 @@ small-join m a b few one = record { total = let x = few.total in let y = one.tot
 pub small-more : (m n : ℕ) (a : Sum) → m ≤ n → IsSmall m a → IsSmall n a
 small-more m n a less small = record { total = let x = small.total in omega arith; count = let x = small.count in omega arith }
 
+-- two small sums
+pub small-both : (m n : ℕ) (a b : Sum) → IsSmall m a → IsSmall n b → IsSmall (m + n) (sum_join a b)
+small-both m n a b few some = record { total = let x = few.total in let y = some.total in omega (arith, ints); count = let x = few.count in let y = some.count in omega arith }
+
+-- so many small sums
+pub small-over : (m : ℕ) (f : ℕ → Sum) (a n : ℕ) → ((i : ℕ) → i < n → IsSmall m (f (a + i))) → IsSmall (n * m) (over sum_join no_sum f a n)
+small-over m f a zero each = record { total = omega arith; count = omega arith }
+small-over m f a (suc n) each =
+    subst (λ (k : ℕ). IsSmall k (over sum_join no_sum f a (suc n))) (let e : n * m + m ≡ suc n * m = omega arith in e)
+    (small-both (n * m) m (over sum_join no_sum f a n) (f (a + n)) (small-over m f a n (λ i below. each i (omega arith))) (each n (omega arith)))
+
+-- ---- the sums of the first columns
+
+-- the sum of the first columns is small
+pub small-front : (columns : List Sum) (i : ℕ) → i ≤ length columns → length columns ≤ most_cells → ((col : ℕ) → col < length columns → IsSmall longest_window (sum_at columns col)) →
+    IsSmall most_summed (over sum_join no_sum (sum_at columns) 0 i)
+small-front columns i within few small =
+    small-more (i * 31) most_summed (over sum_join no_sum (sum_at columns) 0 i) (omega arith)
+    (small-over 31 (sum_at columns) 0 i (λ j less. small (0 + j) (omega arith)))
+
+-- the sum of the first columns that stands in a list of them
+pub front-at : (front columns : List Sum) (i : ℕ) (x : Sum) → length front ≡ length columns + 1 → ((col : ℕ) → col < length columns + 1 → sum_at front col ≡ over sum_join no_sum (sum_at columns) 0 col) →
+    i ≤ length columns → x ≡ get_or front i x → x ≡ over sum_join no_sum (sum_at columns) 0 i
+front-at front columns i x size each within is = is ∙ (get_or_default front i x no_sum (omega arith) ∙ each i (omega arith))
+
+-- two of them, and the columns between
+pub front-parts : (front columns : List Sum) (from to : ℕ) (x y : Sum) → length front ≡ length columns + 1 → ((col : ℕ) → col < length columns + 1 → sum_at front col ≡ over sum_join no_sum (sum_at columns) 0 col) →
+    from ≤ to → to ≤ length columns → x ≡ get_or front from x → y ≡ get_or front to y → y ≡ sum_join x (over sum_join no_sum (sum_at columns) from (to - from))
+front-parts front columns from to x y size each order within is_x is_y =
+    let s = sum_at columns in
+    let count : to ≡ from + (to - from) = omega arith in
+    let place : 0 + from ≡ from = omega arith in
+    front-at front columns to y size each within is_y
+    ∙ (ap (over sum_join no_sum s 0) count
+    ∙ (over-parts sum_join no_sum unordered s 0 from (to - from)
+    ∙ (ap (λ (n : ℕ). sum_join (over sum_join no_sum s 0 from) (over sum_join no_sum s n (to - from))) place
+    ∙ ap (λ (z : Sum). sum_join z (over sum_join no_sum s from (to - from))) (sym (front-at front columns from x size each (omega arith) is_x)))))
+
+-- one more of them
+pub front-more : (front columns : List Sum) (x : Sum) (i : ℕ) → length front ≡ i + 1 → ((col : ℕ) → col < i + 1 → sum_at front col ≡ over sum_join no_sum (sum_at columns) 0 col) → x ≡ over sum_join no_sum (sum_at columns) 0 (i + 1) →
+    (col : ℕ) → col < i + 1 + 1 → sum_at (front ++ x ∷ []) col ≡ over sum_join no_sum (sum_at columns) 0 col
+front-more front columns x i size each is col below =
+    elim (cases_lt col (i + 1)) as (λ z. sum_at (front ++ x ∷ []) col ≡ over sum_join no_sum (sum_at columns) 0 col) [
+      | inl h ↦ get_or_append_left front (x ∷ []) no_sum col (omega arith) ∙ each col h
+      | inr h ↦
+          get_or_push front x no_sum col (omega arith) ∙ (is ∙ ap (over sum_join no_sum (sum_at columns) 0) (let e : i + 1 ≡ col = omega arith in e))
+    ]
+
 -- ---- sums of windows
-
--- a part of a list of sums, sum by sum
-between-sums : (sums : List Sum) (a n : ℕ) → a + n ≤ length sums → slice_range sums a (a + n) ≡ map (sum_at sums) (range_with_len a n)
-between-sums sums a n fits =
-    let len : length (slice_range sums a (a + n)) ≡ n = length-between sums a (a + n) fits ∙ omega arith in
-    same_lists (slice_range sums a (a + n)) (map (sum_at sums) (range_with_len a n)) (len ∙ sym (length-map-range_with_len (sum_at sums) a n))
-    (λ k d below.
-    let less : k < n = subst (λ (m : ℕ). k < m) len below in
-    get_or-between sums a (a + n) k d (omega arith)
-    ∙ (get_or_default sums (a + k) d no_sum (omega arith) ∙ sym (get_or-map-range_with_len (sum_at sums) a n k (a + k) d less refl)))
-
--- the sum of a stretch of columns
-of_stretch : (columns : List Sum) (f : ℕ → Sum) (a n : ℕ) → a + n ≤ length columns → ((col : ℕ) → col < length columns → sum_at columns col ≡ f col) →
-    over sum_join no_sum f a n ≡ fold sum_join no_sum (slice_range columns a (a + n))
-of_stretch columns f a n fits each =
-    over-same sum_join no_sum f (sum_at columns) a a n (λ i below. sym (each (a + i) (omega arith)))
-    ∙ (sym (over-list sum_join no_sum (sum_at columns) a n)
-    ∙ ap (fold sum_join no_sum) (sym (between-sums columns a n fits)))
 
 -- the outcome of a window, by the sums of the columns
 pub sum-window : (summed : Summed) (rows cols k : ℕ) (cells : List Cell) (inner : Rect) (columns : List Sum) (row i : ℕ) → IsInMap rows cols inner → i < inner.cols → length columns ≡ cols →
-    ((col : ℕ) → col < cols → sum_at columns col ≡ over sum_join no_sum (λ r. sum_of_cell (cell_at cells (r * cols + col))) (inner.top + row - k) (min rows (inner.top + row + 1 + k) - (inner.top + row - k))) →
-    window_outcome (sum_op_of summed) rows cols k cells (place_in cols inner (row * inner.cols + i)) ≡ outcome_of_sum summed (fold sum_join no_sum (slice_range columns (inner.left + i - k) (min (length columns) (inner.left + i + 1 + k))))
+    ((col : ℕ) → col < cols → sum_at columns col ≡ column_sum cols cells col (inner.top + row - k) (min rows (inner.top + row + 1 + k))) →
+    window_outcome (sum_op_of summed) rows cols k cells (place_in cols inner (row * inner.cols + i)) ≡ outcome_of_sum summed (over sum_join no_sum (sum_at columns) (inner.left + i - k) (min (length columns) (inner.left + i + 1 + k) - (inner.left + i - k)))
 unfolding window_outcome
 sum-window summed rows cols k cells inner columns row i in_map below size each =
     let right = in_map.right in
@@ -112,8 +141,7 @@ sum-window summed rows cols k cells inner columns row i in_map below size each =
     let r : Rect = window_at rows cols k top left in
     let cut : List Cell = cut_of cols cells r in
     let f : ℕ → Sum = λ c. over sum_join no_sum (λ p. sum_of_cell (cell_at cells (p * cols + c))) r.top r.rows in
-    let end : left - k + r.cols ≡ min (length columns) (left + 1 + k) = omega arith in
-    let fits : left - k + r.cols ≤ length columns = omega arith in
+    let wide : r.cols ≡ min (length columns) (left + 1 + k) - (left - k) = omega arith in
     ap (λ (w : Rect). window_result (sum_op_of summed) (present_values (cut_of cols cells w))) (place-window rows cols k inner row i in_map below)
     ∙ (outcome-sum summed (present_values cut)
     ∙ ap (outcome_of_sum summed)
@@ -122,5 +150,5 @@ sum-window summed rows cols k cells inner columns row i in_map below size each =
     (λ j less.
     let shorter : j < length cut = subst (λ (n : ℕ). j < n) (sym (length-cut_of cols cells r)) less in
     get_or-map sum_of_cell cut j Mv no_sum shorter ∙ ap sum_of_cell (get_or-cut_of cols cells r j Mv less))
-    ∙ (of_stretch columns f (left - k) r.cols fits (λ col less. each col (omega arith))
-    ∙ ap (λ (n : ℕ). fold sum_join no_sum (slice_range columns (left - k) n)) end))))
+    ∙ (over-same sum_join no_sum f (sum_at columns) (left - k) (left - k) r.cols (λ j less. sym (each (left - k + j) (omega arith)))
+    ∙ ap (over sum_join no_sum (sum_at columns) (left - k)) wide))))

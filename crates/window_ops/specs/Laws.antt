@@ -10,7 +10,8 @@ use Rattle.tile_map.specs.Parts.{Outcome}
 use Rattle.tile_map.specs.Rects.{HoldsPlace}
 use Rattle.window_ops.specs.declared.op.WindowOp.{WindowOp}
 use Rattle.window_ops.specs.declared.op.WindowOp.TheVariants.{Diversity}
-use Rattle.window_ops.specs.Results.{IsMajorityAmong, windowmajority_of}
+use Rattle.window_ops.specs.Frequency.{IsMajorityAmong}
+use Rattle.window_ops.specs.inside.Majority.{windowmajority_of}
 use Rattle.window_ops.specs.Windows.{window_of, window_outcome}
 
 -- two numbers are at most k apart
@@ -25,8 +26,8 @@ WindowsHoldWhatIsNear =
     ↔ (AreWithin k (place / cols) (other / cols) × AreWithin k (place % cols) (other % cols))
 
 -- the majority that is found is one, and there is no other
-abbrev pub MajorityIsMostFrequent : Type 0
-MajorityIsMostFrequent =
+abbrev pub WindowMajorityIsMostFrequent : Type 0
+WindowMajorityIsMostFrequent =
     (first : ℤ) (rest : List ℤ) (value : ℤ) → IsMajorityAmong (first ∷ rest) value ↔ (value ≡ windowmajority_of first rest)
 
 -- what an operation gives of one cell: 1 for the diversity of a value, and else the cell

@@ -1,3 +1,4 @@
+pub mod Frequency
 pub mod Laws
 pub mod Results
 pub mod Windows

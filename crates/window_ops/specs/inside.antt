@@ -1,4 +1,5 @@
+pub mod Classes
 pub mod Extremes
+pub mod Majority
 pub mod Outcomes
 pub mod Sums
-pub mod Classes

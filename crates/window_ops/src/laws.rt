@@ -1,6 +1,6 @@
 //! What holds of all windows.
 
-ghost use Rattle.window_ops.specs.Laws.{MajorityIsMostFrequent, OneCellIsItself, WindowsHoldWhatIsNear};
+ghost use Rattle.window_ops.specs.Laws.{WindowMajorityIsMostFrequent, OneCellIsItself, WindowsHoldWhatIsNear};
 
 /// A window holds just the places of the map whose row and column are at most so many away.
 pub fn windows_hold_what_is_near()
@@ -9,8 +9,8 @@ pub fn windows_hold_what_is_near()
 
 /// A majority is one of the values that none is more frequent than, and the least of those that are as frequent; and there
 /// is no other such value.
-pub fn a_majority_is_the_most_frequent_value()
-    ensures { MajorityIsMostFrequent }
+pub fn a_majority_is_the_most_frequent()
+    ensures { WindowMajorityIsMostFrequent }
 {}
 
 /// Where a window is one cell, the total, the average, the least and the greatest value and the majority are this cell, and

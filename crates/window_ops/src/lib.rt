@@ -2,6 +2,7 @@
 #![tactic(auto)]
 
 mod classes;
+mod columns;
 mod extremes;
 mod laws;
 mod op;
@@ -11,8 +12,7 @@ mod reach;
 mod sums;
 
 pub use laws::{
-    a_majority_is_the_most_frequent_value, a_window_of_one_cell_is_the_cell,
-    windows_hold_what_is_near,
+    a_majority_is_the_most_frequent, a_window_of_one_cell_is_the_cell, windows_hold_what_is_near,
 };
 pub use op::WindowOp;
 pub use part::window_part;

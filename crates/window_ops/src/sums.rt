@@ -1,16 +1,16 @@
 //! The sums and the means of windows.
 
-ghost use Rattle.std.specs.Prelude.{◌≡◌, ◌<◌, ◌≤◌, ◌*◌, ◌+◌, ◌-◌, ◌^◌, ℕ, length, fold, min, slice_range, IfOk, OnOk};
+ghost use Rattle.std.specs.Prelude.{◌≡◌, ◌<◌, ◌≤◌, ◌*◌, ◌+◌, ◌-◌, ◌^◌, ℕ, length, min, IfOk, OnOk};
 ghost use Rattle.text_base.specs.Limits.{most_cells};
-ghost use Rattle.tile_map.specs.Cuts.{cell_at};
-ghost use Rattle.tile_map.specs.Parts.{part_of};
+ghost use Rattle.tile_map.specs.Parts.{Outcome, part_of};
 ghost use Rattle.tile_map.specs.Rects.{IsInMap, cell_count, place_in};
 ghost use Rattle.window_ops.specs.Windows.{longest_reach, window_outcome};
-ghost use Rattle.window_ops.specs.inside.Outcomes.{longest_window};
-ghost use Rattle.window_ops.specs.inside.Sums.{sum_op_of};
+ghost use Rattle.window_ops.specs.inside.Outcomes.{AreOutcomes, longest_window, over};
+ghost use Rattle.window_ops.specs.inside.Sums.{IsSmall, most_summed, no_sum, outcome_of_sum, sum_at, sum_join, sum_of_cell, sum_op_of};
 
+use crate::columns::Columns;
 use crate::outcomes::Outcomes;
-use crate::reach::{reach, row_of};
+use crate::reach::reach;
 use cell_values::{Cell, Kind, Over, round_div, to_cell};
 use std::alloc::{AllocError, Global};
 use tile_map::{Part, Rect};
@@ -18,7 +18,9 @@ use tile_map::{Part, Rect};
 /// What is asked of the values' sum.
 #[derive(Clone, Copy)]
 pub enum Summed {
+    /// The sum itself.
     All,
+    /// The sum over the number of the values.
     Mean,
 }
 
@@ -30,19 +32,15 @@ pub struct Sum {
 }
 
 impl Sum {
-    ghost use Rattle.tile_map.specs.Parts.{Outcome};
-    ghost use Rattle.window_ops.specs.inside.Outcomes.{AreOutcomes, over};
-    ghost use Rattle.window_ops.specs.inside.Sums.{IsSmall, no_sum, outcome_of_sum, sum_at, sum_join, sum_of_cell};
-
-    // The sum of no values.
-    fn none() -> Sum
+    /// The sum of no values.
+    pub fn none() -> Sum
         ensures { result ≡ no_sum }
     {
         Sum { total: 0, count: 0 }
     }
 
-    // A cell as a sum.
-    fn of(cell: Cell) -> Sum
+    /// A cell as a sum.
+    pub fn of(cell: Cell) -> Sum
         ensures value { result ≡ sum_of_cell cell }
         ensures small { IsSmall 1 result }
     {
@@ -55,15 +53,28 @@ impl Sum {
         }
     }
 
-    // Two sums as one.
-    fn join(self, other: Sum) -> Sum
-        requires small { IsSmall 1000 self }
-        requires other_small { IsSmall 1000 other }
+    /// Two sums as one.
+    pub fn join(self, other: Sum) -> Sum
+        requires small { IsSmall most_summed self }
+        requires other_small { IsSmall most_summed other }
         ensures { result ≡ sum_join self other }
     {
         Sum {
             total: self.total + other.total,
             count: self.count + other.count,
+        }
+    }
+
+    /// What a sum has beside a part of it.
+    pub fn without(self, part: Sum) -> Sum
+        requires small { IsSmall most_summed self }
+        requires part_small { IsSmall most_summed part }
+        requires part { part.count ≤ self.count }
+        ensures { (rest : Sum) → self ≡ sum_join part rest → result ≡ rest }
+    {
+        Sum {
+            total: self.total - part.total,
+            count: self.count - part.count,
         }
     }
 
@@ -80,96 +91,56 @@ impl Sum {
             Summed::Mean => to_cell(Kind::Scalar, round_div(self.total, self.count as i128)),
         }
     }
-
-    // The sum of some sums, which are few.
-    fn of_all(sums: &[Sum]) -> Sum
-        requires few { length sums.now ≤ longest_window }
-        requires small { (place : ℕ) → place < length sums.now → IsSmall longest_window (sum_at sums.now place) }
-        ensures value { result ≡ fold sum_join no_sum sums.now }
-        ensures small { IsSmall 1000 result }
-    {
-        let mut sum = Sum::none();
-        for part in sums {
-            sum = sum.join(*part);
-        }
-        sum
-    }
-
-    // Adds a row's cells to the sums of the columns.
-    fn take_row(columns: &mut [Sum], row: &[Cell])
-        requires size { length columns.old ≡ length row.now }
-        requires small { (col : ℕ) → col < length row.now → IsSmall 1000 (sum_at columns.old col) }
-        ensures each { (col : ℕ) → col < length row.now → sum_at columns.new col ≡ sum_join (sum_at columns.old col) (sum_of_cell (cell_at row.now col)) }
-        ensures small { (col : ℕ) → col < length row.now → IsSmall 1 (sum_of_cell (cell_at row.now col)) }
-    {
-        for col in 0..columns.len() {
-            columns[col] = columns[col].join(Sum::of(row[col]));
-        }
-    }
-
-    // Adds the cells of some rows to the sums of the columns: from a row on to before another one.
-    fn take_rows(columns: &mut [Sum], cells: &[Cell], top: usize, bottom: usize)
-        requires few { length cells.now ≤ most_cells }
-        requires rows { top ≤ bottom }
-        requires few_rows { bottom ≤ top + longest_window }
-        requires within { bottom * length columns.old ≤ length cells.now }
-        requires clear { (col : ℕ) → sum_at columns.old col ≡ no_sum }
-        ensures each { (col : ℕ) → col < length columns.old → sum_at columns.new col ≡ over sum_join no_sum (λ row. sum_of_cell (cell_at cells.now (row * length columns.old + col))) top (bottom - top) }
-        ensures small { (col : ℕ) → col < length columns.old → IsSmall longest_window (sum_at columns.new col) }
-    {
-        for row in top..bottom {
-            let row_cells = row_of(cells, columns.len(), row);
-            Sum::take_row(columns, row_cells);
-        }
-    }
-
-    // The sums of each column, from a row on to before another one, of a map of so many columns.
-    fn of_columns(
-        alloc: Global,
-        cells: &[Cell],
-        cols: usize,
-        top: usize,
-        bottom: usize,
-    ) -> Result<Vec<Sum>, AllocError>
-        requires few { length cells.now ≤ most_cells }
-        requires rows { top ≤ bottom }
-        requires few_rows { bottom ≤ top + longest_window }
-        requires within { bottom * cols ≤ length cells.now }
-        ensures size { IfOk result (λ columns. length columns.items ≡ cols) }
-        ensures each { IfOk result (λ columns. (col : ℕ) → col < cols → sum_at columns.items col ≡ over sum_join no_sum (λ row. sum_of_cell (cell_at cells.now (row * cols + col))) top (bottom - top)) }
-        ensures small { IfOk result (λ columns. (col : ℕ) → col < cols → IsSmall longest_window (sum_at columns.items col)) }
-    {
-        let mut columns = vec![in alloc; Sum::none(); cols]?;
-        Sum::take_rows(&mut columns, cells, top, bottom);
-        Ok(columns)
-    }
-
-    // The outcomes of a row's windows, from a column on, by the sums of the columns.
-    fn push_row(
-        summed: Summed,
-        columns: &[Sum],
-        k: usize,
-        left: usize,
-        width: usize,
-        out: &mut Outcomes,
-    ) -> Result<(), AllocError>
-        requires few { length columns.now < 2 ^ 32 }
-        requires reach { k ≤ longest_reach }
-        requires within { left + width ≤ length columns.now }
-        requires room { length out.old.cells.items + width ≤ most_cells }
-        requires small { (col : ℕ) → col < length columns.now → IsSmall longest_window (sum_at columns.now col) }
-        ensures size { OnOk result (length out.new.cells.items ≡ length out.old.cells.items + width) }
-        ensures each { OnOk result ((f : ℕ → Outcome) (places : ℕ) → AreOutcomes f places out.old.cells.items out.old.over → ((i : ℕ) → i < width → f (places + i) ≡ outcome_of_sum summed (fold sum_join no_sum (slice_range columns.now (left + i - k) (min (length columns.now) (left + i + 1 + k))))) → AreOutcomes f (places + width) out.new.cells.items out.new.over) }
-    {
-        for col in left..left + width {
-            let (from, to) = reach(col, columns.len(), k);
-            out.push(Sum::of_all(&columns[from..to]).outcome(summed))?;
-        }
-        Ok(())
-    }
 }
 
-/// The part of the sums or the means of the windows round the places of a rectangle.
+// The sums of the first columns: of none, of one, and so on, up to all.
+fn add_up(columns: &[Sum], into: &mut Vec<Sum>) -> Result<(), AllocError>
+    requires few { length columns.now ≤ most_cells }
+    requires small { (col : ℕ) → col < length columns.now → IsSmall longest_window (sum_at columns.now col) }
+    ensures size { OnOk result (length into.new.items ≡ length columns.now + 1) }
+    ensures each { OnOk result ((col : ℕ) → col < length columns.now + 1 → sum_at into.new.items col ≡ over sum_join no_sum (sum_at columns.now) 0 col) }
+{
+    into.clear();
+    let mut sum = Sum::none();
+    into.push(sum)?;
+    for column in columns {
+        sum = sum.join(*column);
+        into.push(sum)?;
+    }
+    Ok(())
+}
+
+// The outcomes of a row's windows, from a column on, by the sums of the columns. `front` is room for the sums of the
+// first columns.
+fn push_row(
+    summed: Summed,
+    columns: &[Sum],
+    front: &mut Vec<Sum>,
+    k: usize,
+    left: usize,
+    width: usize,
+    out: &mut Outcomes,
+) -> Result<(), AllocError>
+    requires few { length columns.now ≤ most_cells }
+    requires reach { k ≤ longest_reach }
+    requires within { left + width ≤ length columns.now }
+    requires room { length out.old.cells.items + width ≤ most_cells }
+    requires small { (col : ℕ) → col < length columns.now → IsSmall longest_window (sum_at columns.now col) }
+    ensures size { OnOk result (length out.new.cells.items ≡ length out.old.cells.items + width) }
+    ensures each { OnOk result ((f : ℕ → Outcome) (places : ℕ) → AreOutcomes f places out.old.cells.items out.old.over → ((i : ℕ) → i < width → f (places + i) ≡ outcome_of_sum summed (over sum_join no_sum (sum_at columns.now) (left + i - k) (min (length columns.now) (left + i + 1 + k) - (left + i - k)))) → AreOutcomes f (places + width) out.new.cells.items out.new.over) }
+{
+    add_up(columns, front)?;
+    for col in left..left + width {
+        let (from, to) = reach(col, columns.len(), k);
+        let window = front[to].without(front[from]);
+        out.push(window.outcome(summed))?;
+    }
+    Ok(())
+}
+
+/// The part of the sums or the means of the windows round the places of a rectangle. The sums of the columns run down the
+/// rows, and those of the first columns are made for each row, so the time for a place does not depend on the length of
+/// the windows.
 pub fn sum_part(
     alloc: Global,
     summed: Summed,
@@ -187,11 +158,15 @@ pub fn sum_part(
 {
     let width = inner.cols as usize;
     let left = inner.left as usize;
+    let first = (inner.top as usize).saturating_sub(k);
     let mut out = Outcomes::with_room(alloc, inner.rows as usize * width)?;
+    let mut columns = Columns::before(alloc, cols as usize, first)?;
+    let mut front = Vec::new(alloc);
     for row in 0..inner.rows as usize {
         let (top, bottom) = reach(inner.top as usize + row, rows as usize, k);
-        let columns = Sum::of_columns(alloc, cells, cols as usize, top, bottom)?;
-        Sum::push_row(summed, &columns, k, left, width, &mut out)?;
+        columns.take_to(cells, cols as usize, bottom);
+        columns.leave_to(cells, cols as usize, top);
+        push_row(summed, &columns.sums, &mut front, k, left, width, &mut out)?;
     }
     Ok(out.into_part())
 }

@@ -1,6 +1,7 @@
 -- What is asked of the classes in a window.
 use Rattle.std.specs.Prelude.{ℤ, List, fold, ◌==◌, ◌&&◌, ◌||◌, nat_lt, int_lt, if◌then◌else◌}
-use Rattle.window_ops.specs.Results.{first_of_two, frequency_among}
+use Rattle.window_ops.specs.Frequency.{frequency_among}
+use Rattle.window_ops.specs.inside.Majority.{first_of_two}
 use Rattle.window_ops.specs.declared.classes.Ranked.{Ranked}
 use Rattle.window_ops.specs.declared.op.WindowOp.{WindowOp}
 use Rattle.window_ops.specs.declared.op.WindowOp.TheVariants.{Diversity, Majority}

@@ -1,17 +1,20 @@
 -- Sums with the number of their values.
-use Rattle.std.specs.Prelude.{ℕ, ◌+◌, ◌*◌, ◌^◌, ◌≤◌, ◌==◌, pos, ◌+ℤ◌, unsigned_abs}
-use Rattle.std.specs.Prelude.{List, get_or, Ok, if◌then◌else◌}
+use Rattle.std.specs.Prelude.{◌≡◌, ℕ, ◌+◌, ◌-◌, ◌*◌, ◌^◌, ◌<◌, ◌≤◌, ◌==◌, pos, ◌+ℤ◌, unsigned_abs}
+use Rattle.std.specs.Prelude.{List, length, get_or, Ok, if◌then◌else◌}
+use Rattle.text_base.specs.Limits.{most_cells}
 use Rattle.cell_values.specs.declared.kind.Kind.TheVariants.{Scalar}
 use Rattle.cell_values.specs.declared.cell.Cell.{Cell}
 use Rattle.cell_values.specs.declared.cell.Cell.TheVariants.{Mv, Val}
 use Rattle.cell_values.specs.Kinds.{cell_of_number}
 use Rattle.cell_values.specs.Rounding.{nearest}
+use Rattle.tile_map.specs.Cuts.{cell_at}
 use Rattle.tile_map.specs.Parts.{Outcome}
 use Rattle.window_ops.specs.declared.op.WindowOp.{WindowOp}
 use Rattle.window_ops.specs.declared.op.WindowOp.TheVariants.{Total, Average}
 use Rattle.window_ops.specs.declared.sums.Sum.{Sum}
 use Rattle.window_ops.specs.declared.sums.Summed.{Summed}
 use Rattle.window_ops.specs.declared.sums.Summed.TheVariants.{All, Mean}
+use Rattle.window_ops.specs.inside.Outcomes.{longest_window, over}
 
 -- the sum of no values
 abbrev pub no_sum : Sum
@@ -34,6 +37,20 @@ sum_at sums place = get_or sums place no_sum
 pub record IsSmall (values : ℕ) (sum : Sum) : Type 0 where
   pub total : unsigned_abs sum.total ≤ values * 2 ^ 63
   pub count : sum.count ≤ values
+
+-- how many values are summed at most: those of the rows of a window over all columns
+abbrev pub most_summed : ℕ
+most_summed = longest_window * most_cells
+
+-- the sum of a column's cells from a row on to before another one, in a map of so many columns
+abbrev pub column_sum : ℕ → List Cell → ℕ → ℕ → ℕ → Sum
+column_sum cols cells col top bottom = over sum_join no_sum (λ row. sum_of_cell (cell_at cells (row * cols + col))) top (bottom - top)
+
+-- these are the sums of the columns of a map over some rows, whose cells are values of 64 bits
+pub record AreColumnSums (cells : List Cell) (cols top bottom : ℕ) (sums : List Sum) : Type 0 where
+  pub size : length sums ≡ cols
+  pub each : (col : ℕ) → col < cols → sum_at sums col ≡ column_sum cols cells col top bottom
+  pub small : (row col : ℕ) → top ≤ row → row < bottom → col < cols → IsSmall 1 (sum_of_cell (cell_at cells (row * cols + col)))
 
 -- what an operation gives of a sum with values
 abbrev pub outcome_of_values_sum : Summed → Sum → Outcome

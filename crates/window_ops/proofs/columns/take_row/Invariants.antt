@@ -1,7 +1,7 @@
 use Rattle.std.proofs.Common.{◌≡◌, ℕ, ◌<◌, ◌≤◌}
 use Rattle.tile_map.specs.Cuts.{cell_at}
 use Rattle.window_ops.specs.inside.Sums.{IsSmall, sum_at, sum_join, sum_of_cell}
-use Rattle.window_ops.proofs.sums.Sum.take_row.Given as goal
+use Rattle.window_ops.proofs.columns.take_row.Given as goal
 
 abbrev pub invariant-loop-col : goal.invariant-loop-col
 invariant-loop-col l = record {
