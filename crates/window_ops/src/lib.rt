@@ -1,4 +1,8 @@
-//! The operations on windows.
+//! Operations over windows: the total, the average, the least, the greatest, how many different values there are and the most
+//! frequent one of the cells round each place.
+//!
+//! The places are those of a rectangle of a map, which comes with the cells around it: so a map may be taken tile by tile,
+//! and a window is cut at the map's border alone.
 #![tactic(auto)]
 
 mod classes;

@@ -1,16 +1,16 @@
-/// An operation on the cells of a window.
+/// An operation over the cells of a window.
 #[derive(Clone, Copy, Debug, PartialEq, Eq)]
 pub enum WindowOp {
-    /// The sum of the values, of scalars.
+    /// The sum of the values: `windowtotal`.
     Total,
-    /// The sum over the number of the values, rounded, of scalars.
+    /// The sum over the number of values, rounded to millionths: `windowaverage`.
     Average,
-    /// The least value.
+    /// The least value: `windowminimum`.
     Minimum,
-    /// The greatest value.
+    /// The greatest value: `windowmaximum`.
     Maximum,
-    /// How many different values there are, as a scalar.
+    /// How many different values there are: `windowdiversity`.
     Diversity,
-    /// The most frequent value, the least of several.
+    /// The most frequent value, the least of several: `windowmajority`.
     Majority,
 }

@@ -1,5 +1,5 @@
-//! Tests of the values, the texts and the world outside, as tables whose expected values come from the written rules,
-//! from worked examples and from the texts of other programs. The crate has tests alone.
+//! Tests of the values, the texts, tiles and windows, and the world outside, as tables whose expected values come from the
+//! written rules, from worked examples and from the texts of other programs. The crate has tests alone.
 #![tactic(auto)]
 
 #[cfg(test)]
@@ -26,3 +26,5 @@ mod tiles;
 mod tokens;
 #[cfg(test)]
 mod values;
+#[cfg(test)]
+mod windows;

@@ -11,7 +11,7 @@ use std::test::Fail;
 use tile_map::{Arg, Rect, TileSource, Tiling};
 
 /// The rows and columns of a map and of its tiles.
-type Sides = (u32, u32, u32, u32);
+pub type Sides = (u32, u32, u32, u32);
 
 /// A rectangle: its first row and column, and how many rows and columns it has.
 type Four = (u32, u32, u32, u32);
@@ -156,7 +156,7 @@ impl TileSource for Tiled {
     }
 }
 
-fn tiling((rows, cols, tile_rows, tile_cols): Sides) -> Option<Tiling> {
+pub(crate) fn tiling((rows, cols, tile_rows, tile_cols): Sides) -> Option<Tiling> {
     let are_sides = 0 < rows
         && 0 < cols
         && rows as u64 * cols as u64 <= 4_194_304
@@ -273,7 +273,7 @@ fn numbered_map(alloc: Global) -> Result<NumberedMap, AllocError> {
     Ok(NumberedMap { tiling, cells })
 }
 
-fn is_in_map(tiling: &Tiling, rect: Rect) -> bool
+pub(crate) fn is_in_map(tiling: &Tiling, rect: Rect) -> bool
     ensures { IsTrue result ↔ IsInMap tiling.now.rows tiling.now.cols rect }
 {
     rect.top as u64 + rect.rows as u64 <= tiling.rows as u64
@@ -317,7 +317,12 @@ fn gather(alloc: Global, source: &Tiled, rect: Rect) -> Result<Cells, Fail> {
     }
 }
 
-fn paste(tiling: &Tiling, into: &mut [Cell], tile: u32, part: &[Cell]) -> Result<(), Fail> {
+pub(crate) fn paste(
+    tiling: &Tiling,
+    into: &mut [Cell],
+    tile: u32,
+    part: &[Cell],
+) -> Result<(), Fail> {
     if tile >= tiling.count() || into.len() != tiling.rows as usize * tiling.cols as usize {
         Err("there is no such tile, or the map has another size")?
     }
