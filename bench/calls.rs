@@ -1,6 +1,8 @@
 //! The calls of `crates/timed_calls` in stock Rust: the same loops over the same 16-byte cells, the best of as many rounds.
-//! It prints the lines that `timed_calls` prints for `cells`, `maps`, `tiles`, `table`, `turns` and `drains`.
+//! It prints the lines that `timed_calls` prints for `cells`, `maps`, `tiles`, `table`, `turns`, `drains` and `windows`.
 
+use std::cmp::Reverse;
+use std::collections::{HashMap, HashSet};
 use std::env;
 use std::hint::black_box;
 use std::sync::Mutex;
@@ -293,6 +295,70 @@ fn time_drains() {
     }
 }
 
+/// What is made of the values in each window, none where there is none: a loop over the window's cells.
+fn windows<T>(a: &[Cell], k: usize, begin: impl Fn() -> T, add: impl Fn(&mut T, i64), end: impl Fn(T) -> Option<i128>) -> (Vec<Cell>, Option<u32>) {
+    let mut out = Vec::with_capacity(a.len());
+    let mut over = None;
+    for row in 0..SIDE {
+        for col in 0..SIDE {
+            let mut made = begin();
+            for r in row.saturating_sub(k)..SIDE.min(row + k + 1) {
+                for cell in &a[r * SIDE + col.saturating_sub(k)..r * SIDE + SIDE.min(col + k + 1)] {
+                    if let Val(v) = cell { add(&mut made, *v) }
+                }
+            }
+            out.push(match end(made) {
+                None => Mv,
+                Some(v) if -(MOST as i128) <= v && v <= MOST as i128 => Val(v as i64),
+                Some(_) => { if over.is_none() { over = Some((row * SIDE + col) as u32) } Mv }
+            });
+        }
+    }
+    (out, over)
+}
+type Windows = (Vec<Cell>, Option<u32>);
+fn sum_and_count(made: &mut (i128, u32), v: i64) { made.0 += v as i128; made.1 += 1; }
+#[inline(never)]
+fn window_total(a: &[Cell], k: usize) -> Windows {
+    windows(a, k, || (0, 0), sum_and_count, |(total, count)| (count > 0).then_some(total))
+}
+#[inline(never)]
+fn window_average(a: &[Cell], k: usize) -> Windows {
+    windows(a, k, || (0, 0), sum_and_count, |(total, count)| (count > 0).then(|| {
+        let size = ((total.unsigned_abs() + count as u128 / 2) / count as u128) as i128;
+        if total < 0 { -size } else { size }
+    }))
+}
+#[inline(never)]
+fn window_minimum(a: &[Cell], k: usize) -> Windows {
+    windows(a, k, || None::<i64>, |least, v| *least = Some(least.map_or(v, |l| l.min(v))), |least| least.map(|l| l as i128))
+}
+#[inline(never)]
+fn window_diversity(a: &[Cell], k: usize) -> Windows {
+    windows(a, k, HashSet::new, |seen, v| { seen.insert(v); }, |seen| (!seen.is_empty()).then(|| seen.len() as i128 * 1_000_000))
+}
+#[inline(never)]
+fn window_majority(a: &[Cell], k: usize) -> Windows {
+    let most = |counts: HashMap<i64, u32>| counts.into_iter().max_by_key(|(v, n)| (*n, Reverse(*v))).map(|(v, _)| v as i128);
+    windows(a, k, HashMap::new, |counts, v| *counts.entry(v).or_insert(0) += 1, most)
+}
+fn time_windows() {
+    let cells = drawn(SIDE * SIDE, 1442695040888963407, 33);
+    let classes = drawn(SIDE * SIDE, 1442695040888963407, 60);
+    let say = |name: &str, rounds: usize, op: fn(&[Cell], usize) -> Windows, k: usize, a: &[Cell]| {
+        let (best, sum) = best_of(rounds, || black_box(op(black_box(a), k)).0.len());
+        println!("{name} {best} {sum}");
+    };
+    say("total_near", 5, window_total, 1, &cells);
+    say("total_wide", 1, window_total, 15, &cells);
+    say("average_near", 5, window_average, 1, &cells);
+    say("average_wide", 1, window_average, 15, &cells);
+    say("minimum_near", 5, window_minimum, 1, &cells);
+    say("minimum_wide", 1, window_minimum, 15, &cells);
+    say("diversity_near", 2, window_diversity, 1, &classes);
+    say("majority_near", 2, window_majority, 1, &classes);
+}
+
 fn main() {
     match env::args().nth(1).as_deref() {
         Some("cells") => time_cells(100_000, 200),
@@ -301,6 +367,7 @@ fn main() {
         Some("table") => time_table(),
         Some("turns") => time_turns(),
         Some("drains") => time_drains(),
-        _ => println!("tiles | cells | maps | table | turns | drains"),
+        Some("windows") => time_windows(),
+        _ => println!("tiles | cells | maps | table | turns | drains | windows"),
     }
 }

@@ -16,7 +16,12 @@ use tile_map::Arg;
 
 // So many cells of a row of drawn numbers, of which one in eleven is missing: the highest bits of each, so many as are left
 // behind the shift.
-fn drawn(alloc: Global, places: u32, step: u64, shift: u32) -> Result<Vec<Cell>, AllocError>
+pub(crate) fn drawn(
+    alloc: Global,
+    places: u32,
+    step: u64,
+    shift: u32,
+) -> Result<Vec<Cell>, AllocError>
     requires { shift < 64 }
 {
     let mut cells = Vec::new(alloc);

@@ -1,4 +1,4 @@
-//! Times calls that no script reaches yet, for `make bench`: `tiles`, `cells`, `maps`, `table`, `turns` or `drains`. Without a word it says these.
+//! Times calls that no script reaches yet, for `make bench`: `tiles`, `cells`, `maps`, `table`, `turns`, `drains` or `windows`. Without a word it says these.
 #![tactic(auto)]
 
 mod best;
@@ -7,6 +7,7 @@ mod drains;
 mod table;
 mod tiles;
 mod turns;
+mod windows;
 
 use cells::time_cells;
 use drains::time_drains;
@@ -17,6 +18,7 @@ use std::test::Fail;
 use table::time_table;
 use tiles::time_tiles;
 use turns::time_turns;
+use windows::time_windows;
 
 // Times what the first word names.
 fn run<R: Clock + Env + Print + AllocGlobal + Wait>(rt: &R) -> Result<(), Fail> {
@@ -28,11 +30,12 @@ fn run<R: Clock + Env + Print + AllocGlobal + Wait>(rt: &R) -> Result<(), Fail> 
             b"table" => time_table(rt)?,
             b"turns" => time_turns(rt)?,
             b"drains" => time_drains(rt)?,
-            _ => println!(rt; "tiles | cells | maps | table | turns | drains")?,
+            b"windows" => time_windows(rt)?,
+            _ => println!(rt; "tiles | cells | maps | table | turns | drains | windows")?,
         }
         return Ok(());
     }
-    println!(rt; "tiles | cells | maps | table | turns | drains")?;
+    println!(rt; "tiles | cells | maps | table | turns | drains | windows")?;
     Ok(())
 }
 

@@ -1,0 +1,67 @@
+//! Operations over windows of a whole map.
+
+use crate::best::Best;
+use crate::cells::drawn;
+use cell_values::Cell;
+use std::alloc::{AllocError, Global};
+use std::rt::Clock;
+use std::test::Fail;
+use std::time::Instant;
+use tile_map::Rect;
+use window_ops::{WindowOp, window_part};
+
+/// A map of 2,048 by 2,048 cells.
+const WHOLE: Rect = Rect {
+    top: 0,
+    left: 0,
+    rows: 2048,
+    cols: 2048,
+};
+
+// How many cells the operation gives.
+fn computed(alloc: Global, op: WindowOp, k: u32, cells: &[Cell]) -> Result<usize, AllocError> {
+    if cells.len() != 4_194_304 || 15 < k {
+        return Ok(0);
+    }
+    let part = window_part(alloc, op, k, cells, WHOLE, WHOLE)?;
+    Ok(part.cells.as_slice().len())
+}
+
+// Times so many rounds of an operation, and prints the best one.
+fn time_op<R: Clock + Print + AllocGlobal>(
+    rt: &R,
+    rounds: u32,
+    name: &str,
+    op: WindowOp,
+    k: u32,
+    cells: &[Cell],
+) -> Result<(), Fail> {
+    let mut best = Best::none();
+    let mut sum = 0usize;
+    for _ in 0..rounds {
+        let start = Instant::now(rt)?;
+        sum = sum.wrapping_add(computed(rt.alloc(), op, k, cells)?);
+        best.note(start.elapsed(rt)?);
+    }
+    let best = best.nanoseconds();
+    println!(rt; "{name} {best} {sum}")?;
+    Ok(())
+}
+
+/// Times operations over windows of 3 by 3 cells (`near`) and of 31 by 31 (`wide`), and prints the best round of each in
+/// nanoseconds.
+pub fn time_windows<R: Clock + Print + AllocGlobal>(rt: &R) -> Result<(), Fail> {
+    let cells = drawn(rt.alloc(), 2048 * 2048, 1442695040888963407, 33)?;
+    let cells = cells.as_slice();
+    let classes = drawn(rt.alloc(), 2048 * 2048, 1442695040888963407, 60)?;
+    let classes = classes.as_slice();
+    time_op(rt, 5, "total_near", WindowOp::Total, 1, cells)?;
+    time_op(rt, 5, "total_wide", WindowOp::Total, 15, cells)?;
+    time_op(rt, 5, "average_near", WindowOp::Average, 1, cells)?;
+    time_op(rt, 5, "average_wide", WindowOp::Average, 15, cells)?;
+    time_op(rt, 5, "minimum_near", WindowOp::Minimum, 1, cells)?;
+    time_op(rt, 2, "minimum_wide", WindowOp::Minimum, 15, cells)?;
+    time_op(rt, 2, "diversity_near", WindowOp::Diversity, 1, classes)?;
+    time_op(rt, 2, "majority_near", WindowOp::Majority, 1, classes)?;
+    Ok(())
+}
