@@ -8,3 +8,4 @@ pub mod ClassLemmas
 pub mod AroundLemmas
 pub mod MajorityLemmas
 pub mod OneCellLemmas
+pub mod RoomLemmas

@@ -9,7 +9,21 @@ use Rattle.window_ops.specs.inside.Extremes.{extreme_cell, extreme_op}
 use Rattle.window_ops.specs.inside.Outcomes.{AreOutcomes, over}
 use Rattle.window_ops.proofs.OutcomeLemmas.{length-outcomes}
 use Rattle.window_ops.proofs.ExtremeLemmas.{extreme-window}
+use Rattle.window_ops.proofs.RoomLemmas.{few_cells, room_for, rows_within}
 use Rattle.window_ops.proofs.extremes.extreme_part.Goals as goal
+
+pub with_room-requires : goal.with_room-requires
+with_room-requires c = few_cells c.args.rows c.args.cols c.args.inner c.args.cells.now c.requires.inner c.requires.cells c.requires.few
+
+pub of_columns-requires-clause-within : goal.of_columns-requires-clause-within
+of_columns-requires-clause-within c =
+    let to = ap (λ (p : ℕ × ℕ). p.1) c.reach-top.ensures in
+    rows_within c.args.rows c.args.cols c.reach-top.result.1 c.args.cells.now c.requires.cells (omega arith)
+
+pub push_row-requires-clause-room : goal.push_row-requires-clause-room
+push_row-requires-clause-room c =
+    room_for c.args.inner.rows c.args.inner.cols c.loop-row.row (length c.loop-row.out.cells.items) (omega arith) c.loop-row.invariant.size
+    (few_cells c.args.rows c.args.cols c.args.inner c.args.cells.now c.requires.inner c.requires.cells c.requires.few)
 
 pub loop-row-init : goal.loop-row-init
 loop-row-init c =

@@ -1,15 +1,21 @@
 use Rattle.std.proofs.Common.{◌≡◌, ℕ, ◌+◌, ◌<◌, List, get_or, sym, ap, subst, ◌∙◌, arith}
 use Rattle.window_ops.specs.declared.sums.Sum.{Sum}
-use Rattle.window_ops.specs.inside.Outcomes.{over}
+use Rattle.window_ops.specs.inside.Outcomes.{longest_window, over}
 use Rattle.window_ops.specs.inside.Sums.{IsSmall, most_summed, no_sum, sum_at, sum_join}
 use Rattle.window_ops.proofs.Grid.{over-more}
-use Rattle.window_ops.proofs.SumLemmas.{front-more, small-front}
+use Rattle.window_ops.proofs.SumLemmas.{front-more, small-front, small-more}
 use Rattle.window_ops.proofs.sums.add_up.Goals as goal
 
 pub join-sum-requires-clause-small : goal.join-sum-requires-clause-small
 join-sum-requires-clause-small c =
     let i = c.loop-column.column-index in
     subst (IsSmall most_summed) (sym c.loop-column.invariant.sum) (small-front c.args.columns.now i (omega arith) c.requires.few c.requires.small)
+
+pub join-sum-requires-clause-other_small : goal.join-sum-requires-clause-other_small
+join-sum-requires-clause-other_small c =
+    let i = c.loop-column.column-index in
+    let column = sum_at c.args.columns.now i in
+    small-more longest_window most_summed column (omega arith) (c.requires.small i c.loop-column-test.true)
 
 pub loop-column-preserved : goal.loop-column-preserved
 loop-column-preserved c =

@@ -1,4 +1,4 @@
-use Rattle.std.proofs.Common.{◌≡◌, ℕ, ◌+◌, ◌-◌, ◌*◌, ◌≤◌, sym, ap, subst, ◌∙◌, arith}
+use Rattle.std.proofs.Common.{◌≡◌, ℕ, ◌+◌, ◌-◌, ◌*◌, length, ◌≤◌, sym, ap, subst, ◌∙◌, arith}
 use Rattle.tile_map.specs.Parts.{Outcome}
 use Rattle.tile_map.specs.Rects.{cell_count, place_in}
 use Rattle.window_ops.specs.Windows.{window_outcome}
@@ -6,8 +6,35 @@ use Rattle.window_ops.specs.inside.Outcomes.{AreOutcomes, longest_window}
 use Rattle.window_ops.specs.inside.Sums.{AreColumnSums, column_sum, sum_op_of}
 use Rattle.window_ops.proofs.ColumnLemmas.{small-column}
 use Rattle.window_ops.proofs.OutcomeLemmas.{length-outcomes}
+use Rattle.window_ops.proofs.RoomLemmas.{few_cells, few_cols, room_for, rows_within}
 use Rattle.window_ops.proofs.SumLemmas.{sum-window}
 use Rattle.window_ops.proofs.sums.sum_part.Goals as goal
+
+pub with_room-requires : goal.with_room-requires
+with_room-requires c = few_cells c.args.rows c.args.cols c.args.inner c.args.cells.now c.requires.inner c.requires.cells c.requires.few
+
+pub take_to-requires-clause-within : goal.take_to-requires-clause-within
+take_to-requires-clause-within c =
+    let to = ap (λ (p : ℕ × ℕ). p.1) c.reach-top.ensures in
+    rows_within c.args.rows c.args.cols c.reach-top.result.1 c.args.cells.now c.requires.cells (omega arith)
+
+pub leave_to-requires-clause-within : goal.leave_to-requires-clause-within
+leave_to-requires-clause-within c =
+    let to = ap (λ (p : ℕ × ℕ). p.1) c.reach-top.ensures in
+    let end = c.take_to.ensures.bottom in
+    rows_within c.args.rows c.args.cols c.take_to.new.self.bottom c.args.cells.now c.requires.cells (omega arith)
+
+pub push_row-requires-clause-few : goal.push_row-requires-clause-few
+push_row-requires-clause-few c =
+    let below = c.requires.inner.below in
+    let size : length c.deref.result.now ≡ c.args.cols = ap length c.deref.ensures.value ∙ c.leave_to.ensures.sums.size in
+    let few = few_cols c.args.rows c.args.cols c.args.cells.now c.requires.cells c.requires.few (omega arith) in
+    omega arith
+
+pub push_row-requires-clause-room : goal.push_row-requires-clause-room
+push_row-requires-clause-room c =
+    room_for c.args.inner.rows c.args.inner.cols c.loop-row.row (length c.loop-row.out.cells.items) (omega arith) c.loop-row.invariant.size
+    (few_cells c.args.rows c.args.cols c.args.inner c.args.cells.now c.requires.inner c.requires.cells c.requires.few)
 
 pub loop-row-init : goal.loop-row-init
 loop-row-init c =
