@@ -4,7 +4,7 @@ use Rattle.std.proofs.Math.Seq.{take-append_seam}
 use Rattle.std.proofs.lemmas.Bool.{cases_lt}
 use Rattle.cell_values.specs.declared.cell.Cell.{Cell}
 use Rattle.tile_map.specs.Cuts.{cell_at}
-use Rattle.window_ops.specs.declared.sums.Sum.{Sum}
+use Rattle.window_ops.specs.declared.sum.Sum.{Sum}
 use Rattle.window_ops.specs.inside.Outcomes.{over}
 use Rattle.window_ops.specs.inside.Sums.{AreColumnSums, IsSmall, column_sum, no_sum, sum_at, sum_join, sum_of_cell}
 use Rattle.window_ops.proofs.Grid.{over-first, over-more}

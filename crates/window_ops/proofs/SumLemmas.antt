@@ -13,9 +13,9 @@ use Rattle.tile_map.specs.Cuts.{cell_at, cut_of}
 use Rattle.tile_map.specs.Parts.{Outcome}
 use Rattle.tile_map.specs.Rects.{IsInMap, place_in}
 use Rattle.tile_map.proofs.Callers.{get_or-cut_of, length-cut_of}
-use Rattle.window_ops.specs.declared.sums.Sum.{Sum}
-use Rattle.window_ops.specs.declared.sums.Summed.{Summed}
-use Rattle.window_ops.specs.declared.sums.Summed.TheVariants.{All, Mean}
+use Rattle.window_ops.specs.declared.sum.Sum.{Sum}
+use Rattle.window_ops.specs.declared.sum.Summed.{Summed}
+use Rattle.window_ops.specs.declared.sum.Summed.TheVariants.{All, Mean}
 use Rattle.window_ops.specs.Results.{window_result, windowtotal_of}
 use Rattle.window_ops.specs.Windows.{present_values, window_outcome}
 use Rattle.window_ops.specs.inside.Outcomes.{longest_window, over}
@@ -72,10 +72,7 @@ outcome-sum Mean (x ∷ xs) = counted Mean (sum_of (x ∷ xs)) (omega arith)
 
 -- ---- bounds
 
--- one more small sum
-pub small-join : (m : ℕ) (a b : Sum) → IsSmall m a → IsSmall 1 b → IsSmall (m + 1) (sum_join a b)
-small-join m a b few one = record { total = let x = few.total in let y = one.total in omega (arith, ints); count = let x = few.count in let y = one.count in omega arith }
-
+-- a small sum is one of more values too
 pub small-more : (m n : ℕ) (a : Sum) → m ≤ n → IsSmall m a → IsSmall n a
 small-more m n a less small = record { total = let x = small.total in omega arith; count = let x = small.count in omega arith }
 

@@ -7,7 +7,7 @@ ghost use Rattle.tile_map.specs.Cuts.{cell_at};
 ghost use Rattle.window_ops.specs.inside.Sums.{AreColumnSums, IsSmall, sum_at, sum_join, sum_of_cell};
 
 use crate::reach::row_of;
-use crate::sums::Sum;
+use crate::sum::Sum;
 use cell_values::Cell;
 use std::alloc::{AllocError, Global};
 

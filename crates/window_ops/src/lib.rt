@@ -13,6 +13,7 @@ mod op;
 mod outcomes;
 mod part;
 mod reach;
+mod sum;
 mod sums;
 
 pub use laws::{

@@ -8,7 +8,8 @@ ghost use Rattle.window_ops.specs.Windows.{AreAround, IsInside, longest_reach, w
 use crate::classes::{Classed, class_part};
 use crate::extremes::{Extreme, extreme_part};
 use crate::op::WindowOp;
-use crate::sums::{Summed, sum_part};
+use crate::sum::Summed;
+use crate::sums::sum_part;
 use cell_values::Cell;
 use std::alloc::{AllocError, Global};
 use tile_map::{Part, Rect};

@@ -11,9 +11,9 @@ use Rattle.tile_map.specs.Cuts.{cell_at}
 use Rattle.tile_map.specs.Parts.{Outcome}
 use Rattle.window_ops.specs.declared.op.WindowOp.{WindowOp}
 use Rattle.window_ops.specs.declared.op.WindowOp.TheVariants.{Total, Average}
-use Rattle.window_ops.specs.declared.sums.Sum.{Sum}
-use Rattle.window_ops.specs.declared.sums.Summed.{Summed}
-use Rattle.window_ops.specs.declared.sums.Summed.TheVariants.{All, Mean}
+use Rattle.window_ops.specs.declared.sum.Sum.{Sum}
+use Rattle.window_ops.specs.declared.sum.Summed.{Summed}
+use Rattle.window_ops.specs.declared.sum.Summed.TheVariants.{All, Mean}
 use Rattle.window_ops.specs.inside.Outcomes.{longest_window, over}
 
 -- the sum of no values

@@ -1,6 +1,6 @@
 use Rattle.std.proofs.Common.{◌≡◌, ℕ, ◌<◌, ◌≤◌}
 use Rattle.tile_map.specs.Cuts.{cell_at}
-use Rattle.window_ops.specs.declared.sums.Sum.{Sum}
+use Rattle.window_ops.specs.declared.sum.Sum.{Sum}
 use Rattle.window_ops.specs.inside.Sums.{sum_at, sum_join, sum_of_cell}
 use Rattle.window_ops.proofs.columns.leave_row.Given as goal
 

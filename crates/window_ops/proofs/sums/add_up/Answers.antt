@@ -1,5 +1,5 @@
 use Rattle.std.proofs.Common.{◌≡◌, ℕ, ◌+◌, ◌<◌, List, get_or, sym, ap, subst, ◌∙◌, arith}
-use Rattle.window_ops.specs.declared.sums.Sum.{Sum}
+use Rattle.window_ops.specs.declared.sum.Sum.{Sum}
 use Rattle.window_ops.specs.inside.Outcomes.{longest_window, over}
 use Rattle.window_ops.specs.inside.Sums.{IsSmall, most_summed, no_sum, sum_at, sum_join}
 use Rattle.window_ops.proofs.Grid.{over-more}

@@ -1,5 +1,5 @@
 use Rattle.std.proofs.Common.{◌≡◌, ℕ, ◌+◌, ◌-◌, ◌*◌, ◌<◌, length, min, sym, ap, subst, ◌∙◌, arith}
-use Rattle.window_ops.specs.declared.sums.Sum.{Sum}
+use Rattle.window_ops.specs.declared.sum.Sum.{Sum}
 use Rattle.window_ops.specs.inside.Outcomes.{AreOutcomes, over}
 use Rattle.window_ops.specs.inside.Sums.{IsSmall, most_summed, no_sum, outcome_of_sum, sum_at, sum_join}
 use Rattle.window_ops.proofs.SumLemmas.{front-at, front-parts, small-front, small-more, small-over}
