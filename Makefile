@@ -36,6 +36,7 @@ $(libraries:%=proved-%): proved-%: $$(addprefix proved-,$$(call named_by,$$*))
 demo: $(PROGRAM)
 	@scripts/demo $(PROGRAM) examples/first-sum
 	@scripts/demo $(PROGRAM) examples/storm-runoff
+	@scripts/demo $(PROGRAM) examples/soil-bucket
 
 # The gate: every proof, must-fail edit, test and program, and then the project's own checks: of its definitions, of its
 # documents and of the built program.
