@@ -2,10 +2,14 @@
 use Rattle.std.specs.Prelude.{List, ℕ, codes}
 use Rattle.grid_text.specs.declared.fault.GridKind.{GridKind}
 use Rattle.grid_text.specs.declared.fault.GridKind.TheVariants as grid
+use Rattle.lookup_table.specs.declared.fault.TableKind.{TableKind}
+use Rattle.lookup_table.specs.declared.fault.TableKind.TheVariants as table
 use Rattle.script_syntax.specs.declared.fault.SyntaxKind.{SyntaxKind}
 use Rattle.script_syntax.specs.declared.fault.SyntaxKind.TheVariants as syntax
 use Rattle.script_types.specs.declared.fault.MeaningKind.{MeaningKind}
 use Rattle.script_types.specs.declared.fault.MeaningKind.TheVariants as meaning
+use Rattle.time_series.specs.declared.fault.SeriesKind.{SeriesKind}
+use Rattle.time_series.specs.declared.fault.SeriesKind.TheVariants as series
 
 -- the word for the kind of a grid's fault
 abbrev pub grid_word : GridKind → List ℕ
@@ -13,6 +17,21 @@ grid_word grid.Head = codes "head"
 grid_word grid.BadNumber = codes "bad-number"
 grid_word grid.Range = codes "range"
 grid_word grid.Count = codes "count"
+
+-- the word for the kind of a lookup table's fault
+abbrev pub table_word : TableKind → List ℕ
+table_word table.Columns = codes "columns"
+table_word table.BadNumber = codes "bad-number"
+table_word table.BadInterval = codes "bad-interval"
+table_word table.Range = codes "range"
+
+-- the word for the kind of a time series' fault
+abbrev pub series_word : SeriesKind → List ℕ
+series_word series.Title = codes "title"
+series_word series.Columns = codes "columns"
+series_word series.BadNumber = codes "bad-number"
+series_word series.Range = codes "range"
+series_word series.Order = codes "order"
 
 -- the word for the kind of a fault of syntax
 abbrev pub syntax_word : SyntaxKind → List ℕ

@@ -6,13 +6,13 @@ use Rattle.script_types.specs.declared.fault.Place.{Place}
 use Rattle.script_types.specs.declared.fault.Place.TheVariants.{Binding, Area, Statement}
 use Rattle.map_meaning.specs.declared.known.OverAt.{OverAt}
 use Rattle.run_session.specs.declared.ends.InputKind.{InputKind}
-use Rattle.run_session.specs.declared.ends.InputKind.TheVariants.{Grid, Size}
+use Rattle.run_session.specs.declared.ends.InputKind.TheVariants.{Grid, Table, Series, Size}
 use Rattle.run_session.specs.declared.ends.ScriptFault.{ScriptFault}
 use Rattle.run_session.specs.declared.ends.ScriptFault.TheVariants.{Syntax, Meaning}
 use Rattle.lue_run.specs.declared.ended.Ended.{Ended}
 use Rattle.lue_run.specs.declared.ended.Ended.TheVariants.{Done, Usage, Missing, TooLong, Script, Unbuilt, Input, TooManyTasks, Overflow}
 use Rattle.lue_run.specs.declared.ended.Ended.TheVariants.{FolderReadFault, FolderWriteFault, OutFault, Memory}
-use Rattle.lue_run.specs.Kinds.{grid_word, syntax_word, meaning_word}
+use Rattle.lue_run.specs.Kinds.{grid_word, table_word, series_word, syntax_word, meaning_word}
 
 -- a line of a text and a name
 abbrev pub named_line : List ℕ → List ℕ → List ℕ
@@ -41,6 +41,10 @@ script_line (Meaning fault) = codes "script " ++ meaning_words fault ++ codes "\
 abbrev pub input_line : List ℕ → InputKind → List ℕ
 input_line name (Grid fault) =
     codes "input " ++ name ++ codes " grid " ++ grid_word fault.kind ++ codes " " ++ decimal fault.at ++ codes "\n"
+input_line name (Table fault) =
+    codes "input " ++ name ++ codes " table " ++ table_word fault.kind ++ codes " line " ++ decimal fault.line ++ codes "\n"
+input_line name (Series fault) =
+    codes "input " ++ name ++ codes " series " ++ series_word fault.kind ++ codes " line " ++ decimal fault.line ++ codes "\n"
 input_line name (Size rows cols) = codes "input " ++ name ++ codes " size " ++ decimal rows ++ codes " " ++ decimal cols ++ codes "\n"
 
 -- the line of an overflow

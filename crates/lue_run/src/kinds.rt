@@ -1,9 +1,11 @@
 ghost use Rattle.std.specs.Prelude.{◌≡◌};
-ghost use Rattle.lue_run.specs.Kinds.{grid_word, meaning_word, syntax_word};
+ghost use Rattle.lue_run.specs.Kinds.{grid_word, meaning_word, series_word, syntax_word, table_word};
 
 use grid_text::GridKind;
+use lookup_table::TableKind;
 use script_syntax::SyntaxKind;
 use script_types::MeaningKind;
+use time_series::SeriesKind;
 
 /// The word for the kind of a grid's fault.
 pub fn grid_word(kind: GridKind) -> &'static [u8]
@@ -14,6 +16,31 @@ pub fn grid_word(kind: GridKind) -> &'static [u8]
         GridKind::BadNumber => b"bad-number",
         GridKind::Range => b"range",
         GridKind::Count => b"count",
+    }
+}
+
+/// The word for the kind of a lookup table's fault.
+pub fn table_word(kind: TableKind) -> &'static [u8]
+    ensures { result.now ≡ table_word kind }
+{
+    match kind {
+        TableKind::Columns => b"columns",
+        TableKind::BadNumber => b"bad-number",
+        TableKind::BadInterval => b"bad-interval",
+        TableKind::Range => b"range",
+    }
+}
+
+/// The word for the kind of a time series' fault.
+pub fn series_word(kind: SeriesKind) -> &'static [u8]
+    ensures { result.now ≡ series_word kind }
+{
+    match kind {
+        SeriesKind::Title => b"title",
+        SeriesKind::Columns => b"columns",
+        SeriesKind::BadNumber => b"bad-number",
+        SeriesKind::Range => b"range",
+        SeriesKind::Order => b"order",
     }
 }
 

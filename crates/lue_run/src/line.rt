@@ -2,7 +2,7 @@ ghost use Rattle.std.specs.Prelude.{◌≡◌, ◌++◌, IfOk, codes, decimal};
 ghost use Rattle.lue_run.specs.Lines.{input_line, line_of, named_line, over_line};
 
 use crate::ended::Ended;
-use crate::kinds::grid_word;
+use crate::kinds::{grid_word, series_word, table_word};
 use crate::number::put_number;
 use crate::script_line::script_line;
 use cell_values::Word;
@@ -52,6 +52,16 @@ fn input_line(alloc: Global, name: &Word, kind: InputKind) -> Result<Vec<u8>, Al
             line.extend_from_slice(b" grid ")?;
             line.extend_from_slice(grid_word(fault.kind))?;
             put_number(&mut line, b" ", fault.at)?;
+        }
+        InputKind::Table(fault) => {
+            line.extend_from_slice(b" table ")?;
+            line.extend_from_slice(table_word(fault.kind))?;
+            put_number(&mut line, b" line ", fault.line as u64)?;
+        }
+        InputKind::Series(fault) => {
+            line.extend_from_slice(b" series ")?;
+            line.extend_from_slice(series_word(fault.kind))?;
+            put_number(&mut line, b" line ", fault.line as u64)?;
         }
         InputKind::Size { rows, cols } => {
             put_number(&mut line, b" size ", rows as u64)?;

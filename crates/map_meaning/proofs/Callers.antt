@@ -13,7 +13,7 @@ use Rattle.map_meaning.specs.declared.program.Program.{Program}
 use Rattle.map_meaning.specs.declared.tree.Statement.{Statement}
 use Rattle.map_meaning.specs.declared.tree.Tree.{Tree}
 use Rattle.map_meaning.specs.declared.tree.Tree.TheVariants as tree
-use Rattle.map_meaning.specs.declared.tree.Tree.TheVariants.{rolls-Call, rolls-Input, rolls-Name, rolls-Number}
+use Rattle.map_meaning.specs.declared.tree.Tree.TheVariants.{rolls-Call, rolls-Input, rolls-LookUp, rolls-Name, rolls-Number, rolls-Stack, rolls-Time}
 use Rattle.map_meaning.specs.declared.tree.Tree.TheFolds.{fold-roll-Tree}
 use Rattle.map_meaning.specs.declared.tree.Tree.TheOpen.{Tree-F}
 use Rattle.map_meaning.specs.Evaluation.{Done, operation_value, operation_values, with_map}
@@ -49,6 +49,21 @@ meaning_of-Name kind name = ap meaning_of (sym (rolls-Name kind name)) ∙ fold-
 pub meaning_of-Call : (kind : Kind) (op : Op) (operands : List Tree) → meaning_of (tree.Call kind op operands) ≡ meaning_level (Tree-F.Call kind op (map meaning_of operands))
 unfolding meaning_of
 meaning_of-Call kind op operands = ap meaning_of (sym (rolls-Call kind op operands)) ∙ fold-roll-Tree TreeMeaning meaning_level (Tree-F.Call kind op operands)
+
+-- the number of the step
+pub meaning_of-Time : meaning_of tree.Time ≡ meaning_level Tree-F.Time
+unfolding meaning_of
+meaning_of-Time = ap meaning_of (sym rolls-Time) ∙ fold-roll-Tree TreeMeaning meaning_level Tree-F.Time
+
+-- a stack
+pub meaning_of-Stack : (kind : Kind) (input : ℕ) → meaning_of (tree.Stack kind input) ≡ meaning_level (Tree-F.Stack kind input)
+unfolding meaning_of
+meaning_of-Stack kind input = ap meaning_of (sym (rolls-Stack kind input)) ∙ fold-roll-Tree TreeMeaning meaning_level (Tree-F.Stack kind input)
+
+-- an operation that looks its results up
+pub meaning_of-LookUp : (kind : Kind) (op : Op) (file : ℕ) (operands : List Tree) → meaning_of (tree.LookUp kind op file operands) ≡ meaning_level (Tree-F.LookUp kind op file (map meaning_of operands))
+unfolding meaning_of
+meaning_of-LookUp kind op file operands = ap meaning_of (sym (rolls-LookUp kind op file operands)) ∙ fold-roll-Tree TreeMeaning meaning_level (Tree-F.LookUp kind op file operands)
 
 -- ---- a section, one statement at a time
 

@@ -11,7 +11,7 @@ use Rattle.map_meaning.specs.declared.program.Operand.{Operand}
 use Rattle.map_meaning.specs.declared.program.Operand.TheVariants.{Unused, Literal, Time, Input, Stack, Initial, Now, Last}
 use Rattle.map_meaning.specs.declared.program.Operation.{Operation}
 use Rattle.map_meaning.specs.declared.program.Program.{Program}
-use Rattle.map_meaning.specs.Maps.{WholeMap, CellAt, nowhere, nth, step_cell}
+use Rattle.map_meaning.specs.Maps.{WholeMap, CellAt, everywhere, nowhere, nth, step_cell}
 use Rattle.map_meaning.specs.Rules.{outcome_of}
 use Rattle.map_meaning.specs.Scenes.{Scene, place_count, setting_at, stack_map}
 use Rattle.map_meaning.specs.Overs.{whole_or_over}
@@ -53,6 +53,17 @@ operand_cell scene done (Stack n) = cell_at (stack_map scene n)
 operand_cell scene done (Initial n) = cell_at (nth done.initial n)
 operand_cell scene done (Now n) = cell_at (nth done.dynamic n)
 operand_cell scene done (Last dynamic initial) = cell_at (last_map scene done dynamic initial)
+
+-- the map of an operand
+abbrev pub operand_map : Scene → Done → Operand → WholeMap
+operand_map scene done Unused = []
+operand_map scene done (Literal kind cell) = everywhere (place_count scene) cell
+operand_map scene done Time = everywhere (place_count scene) (step_cell scene.step)
+operand_map scene done (Input n) = nth scene.inputs n
+operand_map scene done (Stack n) = stack_map scene n
+operand_map scene done (Initial n) = nth done.initial n
+operand_map scene done (Now n) = nth done.dynamic n
+operand_map scene done (Last dynamic initial) = last_map scene done dynamic initial
 
 -- what an operation gives at a place
 abbrev pub outcome_at : Program → Scene → Done → Operation → ℕ → Outcome

@@ -5,6 +5,7 @@ pub mod Rules
 pub mod Table
 pub mod Maps
 pub mod Scenes
+pub mod StackNames
 pub mod Overs
 pub mod Trees
 pub mod Sections

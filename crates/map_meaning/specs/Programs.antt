@@ -253,6 +253,11 @@ pub record IsOutput (program : Program) (output : OutputUse) : Type 0 where
   pub file : IsTrue (is_file_word output.file)
   pub statement : output.statement ≤ most_statements
 
+-- an output is written once, after `initial`
+abbrev pub is_initial_grid : OutputKind → Bool
+is_initial_grid InitialGrid = true
+is_initial_grid _ = false
+
 -- an output is written as a stack
 abbrev pub is_stack_grid : OutputKind → Bool
 is_stack_grid StackGrid = true

@@ -2,6 +2,7 @@
 use Rattle.std.specs.Prelude.{ℕ, ◌+◌, List, [], ◌∷◌, map, Result, Ok}
 use Rattle.text_base.specs.Results.{◌>>=◌}
 use Rattle.cell_values.specs.declared.kind.Kind.{Kind}
+use Rattle.cell_values.specs.declared.kind.Kind.TheVariants.{Scalar}
 use Rattle.tile_map.specs.Cuts.{cell_at}
 use Rattle.tile_map.specs.Parts.{part_of}
 use Rattle.map_meaning.specs.declared.op.Op.{Op}
@@ -9,9 +10,9 @@ use Rattle.map_meaning.specs.declared.known.OverAt.{OverAt}
 use Rattle.map_meaning.specs.declared.tree.Tree.{Tree}
 use Rattle.map_meaning.specs.declared.tree.Tree.TheFolds.{fold-Tree}
 use Rattle.map_meaning.specs.declared.tree.Tree.TheOpen.{Tree-F}
-use Rattle.map_meaning.specs.Maps.{WholeMap, everywhere, nth}
+use Rattle.map_meaning.specs.Maps.{WholeMap, everywhere, nth, step_cell}
 use Rattle.map_meaning.specs.Rules.{Setting, outcome_of}
-use Rattle.map_meaning.specs.Scenes.{Scene, place_count, setting_in}
+use Rattle.map_meaning.specs.Scenes.{Scene, place_count, setting_at, setting_in, stack_map}
 use Rattle.map_meaning.specs.Overs.{whole_or_over}
 
 -- the map of each name
@@ -56,8 +57,12 @@ applied at op kinds maps number = applied_in at op (setting_in at.scene kinds) m
 abbrev pub meaning_level : Tree-F TreeMeaning → TreeMeaning
 meaning_level (Tree-F.Number kind cell) =
     record { kind = kind; operations = 0; value = λ at before. Ok (everywhere (place_count at.scene) cell) }
+meaning_level Tree-F.Time =
+    record { kind = Scalar; operations = 0; value = λ at before. Ok (everywhere (place_count at.scene) (step_cell at.scene.step)) }
 meaning_level (Tree-F.Input kind input) =
     record { kind = kind; operations = 0; value = λ at before. Ok (nth at.scene.inputs input) }
+meaning_level (Tree-F.Stack kind input) =
+    record { kind = kind; operations = 0; value = λ at before. Ok (stack_map at.scene input) }
 meaning_level (Tree-F.Name kind name) =
     record { kind = kind; operations = 0; value = λ at before. Ok (at.names name) }
 meaning_level (Tree-F.Call kind op operands) =
@@ -67,6 +72,14 @@ meaning_level (Tree-F.Call kind op operands) =
       value = λ at before.
           values_from_left operands at before >>= λ maps.
           applied at op (map (λ m. m.kind) operands) maps (before + operations_in operands + 1);
+    }
+meaning_level (Tree-F.LookUp kind op file operands) =
+    record {
+      kind = kind;
+      operations = operations_in operands + 1;
+      value = λ at before.
+          values_from_left operands at before >>= λ maps.
+          applied_in at op (setting_at at.scene file (map (λ m. m.kind) operands)) maps (before + operations_in operands + 1);
     }
 
 -- what an expression means

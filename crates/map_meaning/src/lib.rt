@@ -14,6 +14,7 @@ mod program;
 mod row;
 mod runner;
 mod shared;
+mod stack;
 mod table;
 mod tree;
 
@@ -29,6 +30,7 @@ pub use program::{InputUse, Operand, Operation, OutputKind, OutputUse, Program, 
 pub use row::{Ask, Given, Kinds, Meant, Row, Stands};
 pub use runner::BlockRunner;
 pub use shared::{SharedSeries, SharedTable};
+pub use stack::stack_file;
 pub use table::{COPY, MANY_OPERANDS, OPERATIONS, rows};
 pub use tile_map::{Arg, Part};
 pub use tree::{Statement, Tree};

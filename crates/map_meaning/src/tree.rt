@@ -12,8 +12,17 @@ pub enum Tree {
         /// Its value.
         cell: Cell,
     },
+    /// The number of the step, as a scalar.
+    Time,
     /// The grid of the input with this number, which counts the program's inputs from 0.
     Input {
+        /// The kind of the grid.
+        kind: Kind,
+        /// The number.
+        input: u32,
+    },
+    /// The grid of the stack that is the input with this number, at the step.
+    Stack {
         /// The kind of the grid.
         kind: Kind,
         /// The number.
@@ -33,6 +42,17 @@ pub enum Tree {
         /// What is computed.
         op: Op,
         /// The operands, from the left.
+        operands: Items<Tree>,
+    },
+    /// An operation that looks its results up in a table or a series.
+    LookUp {
+        /// The kind of the result.
+        kind: Kind,
+        /// What is computed.
+        op: Op,
+        /// The number of the input that is the table or the series.
+        file: u32,
+        /// The operands behind the table or the series, from the left.
         operands: Items<Tree>,
     },
 }

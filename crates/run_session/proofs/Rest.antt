@@ -1,22 +1,26 @@
 -- What is left of a run after each of its parts.
-use Rattle.std.proofs.Common.{◌≡◌, ◌*◌, false, cond, refl, sym, ap, subst, ◌∙◌}
-use Rattle.std.specs.Prelude.{List, ℕ, [], ◌∷◌, length, Ok, Err, Result, IfOk, IfErr, IsErrAnd}
+use Rattle.std.proofs.Common.{◌≡◌, false, cond, map, refl, sym, ap, subst, ◌∙◌}
+use Rattle.std.specs.Prelude.{List, ℕ, [], Ok, Err, Result, IfOk, IfErr, IsErrAnd}
 use Rattle.std.specs.declared.option.Option.{Option}
 use Rattle.outside_io.specs.State.{FolderState}
 use Rattle.outside_io.specs.Events.{Run}
 use Rattle.outside_io.specs.Runs.{◌>>=◌, in_turn, settled}
-use Rattle.outside_io.specs.Causes.{CameTo, CutOff, RunOutcome, outcome_as, stopped_by, why_by}
+use Rattle.outside_io.specs.Causes.{CameTo, CutOff, RunOutcome, outcome_as, outcome_by, stopped_by, why_by}
+use Rattle.outside_io.specs.inside.Parts.{seen_by}
 use Rattle.outside_io.specs.Met.{Follows, Meets}
 use Rattle.outside_io.proofs.Callers.{if_told, meets_on, meets_settled}
 use Rattle.script_syntax.specs.declared.tree.Script.{Script}
 use Rattle.map_meaning.specs.declared.known.OverAt.{OverAt}
+use Rattle.map_meaning.specs.declared.known.StepMap.{StepMap}
 use Rattle.map_meaning.specs.declared.program.InputUse.{InputUse}
 use Rattle.map_meaning.specs.declared.program.Program.{Program}
-use Rattle.map_meaning.specs.Programs.{is_series_role, is_table_role}
-use Rattle.map_meaning.specs.Spans.{HasSeriesKind, IsTableOf, Knows, RunOf, scene_of, whole_span}
+use Rattle.map_meaning.specs.Programs.{is_grid_role}
+use Rattle.map_meaning.specs.Spans.{RunOf, at_inputs}
 use Rattle.grid_text.specs.declared.grid.Grid.{Grid}
 use Rattle.script_types.specs.Answers.{IsLowered}
+use Rattle.script_types.specs.Lowered.{Shown, as_shown, inputs_of, outputs_from}
 use Rattle.script_types.specs.Meaning.{meaning}
+use Rattle.script_types.specs.Names.{binding_of}
 use Rattle.script_types.specs.declared.typed.Line.{Line}
 use Rattle.script_types.specs.Unbuilt.{is_unbuilt}
 use Rattle.script_types.specs.Values.{Written, script_reports}
@@ -24,29 +28,26 @@ use Rattle.run_session.specs.declared.ends.SessionEnd.{SessionEnd}
 use Rattle.run_session.specs.declared.ends.SessionEnd.TheVariants as session
 use Rattle.run_session.specs.declared.ends.Stop.{Stop}
 use Rattle.run_session.specs.declared.ends.Tally.{Tally}
-use Rattle.run_session.specs.Asked.{CountsTasks, IfDone, WasAsked}
-use Rattle.run_session.specs.declared.inputs.Frame.{Frame}
 use Rattle.run_session.specs.declared.inputs.Inputs.{Inputs}
-use Rattle.run_session.specs.Course.{CheckedScript, Loaded, Many, checked_run, checked_script, frame_of, load_run, loaded_run}
-use Rattle.run_session.specs.Course.{one_more_map, or_meaning, or_overflow, report_run, start_run, text_run}
+use Rattle.run_session.specs.Asked.{AreRunsOf, CountsTasks, IfDone, WasAsked, all_steps, stands_run}
+use Rattle.run_session.specs.inside.Tallies.{HasRun}
+use Rattle.run_session.specs.Course.{CheckedScript, Given, Loaded, Many, checked_run, checked_script, inputs_given, load_run, loaded_run, nothing_given, one_more_input, or_meaning, plan_of, start_run, text_run}
 use Rattle.run_session.specs.Ends.{ScriptEnd, Unbuilt, script_end, why}
-use Rattle.run_session.specs.Evaluation.{known_of, reports_of}
-use Rattle.run_session.specs.inside.Parts.{AreInputsOf, HasNoSteps, IsProgramFor, MakesFor, StopsAt, WasRun, outputs_over, stop_outcome, tally_of}
-use Rattle.run_session.proofs.NoSteps.{grid_maps, no_steps, none_known}
+use Rattle.run_session.specs.Evaluation.{reports_of, scenes_over}
+use Rattle.run_session.specs.Samples.{all_begun}
+use Rattle.run_session.specs.Steps.{Plan, plan_run, stacks_among, tallied}
+use Rattle.run_session.specs.inside.Parts.{IsProgramFor, MakesFor, StopsAt, stop_outcome}
+use Rattle.run_session.specs.inside.Standings.{outputs_over, program_plan}
 
 -- ---- what is left
 
+-- what is left once all inputs are read
+abbrev pub after_given : Grid → Given → Run (Result Inputs ScriptEnd)
+after_given area given = settled (Ok (inputs_given area given))
+
 -- what is left once the area map is read
 abbrev pub after_area : List InputUse → ℕ → Grid → Run (Result Inputs ScriptEnd)
-after_area list number area = in_turn (one_more_map number area) [] list >>= λ maps. settled (Ok (record { frame = frame_of area; maps = maps }))
-
--- what is left once the statements are evaluated
-abbrev pub after_reports : ℕ → Frame → List Written → Run (Result Tally ScriptEnd)
-after_reports steps frame reports = in_turn (report_run frame) tt reports >>= λ done. settled (Ok (tally_of (length reports) steps))
-
--- what is left once the tasks are counted
-abbrev pub after_count : Result (List Written) OverAt → ℕ → Frame → Unit {0} → Run (Result Tally ScriptEnd)
-after_count reports steps frame few = settled (or_overflow reports) >>= after_reports steps frame
+after_area list number area = in_turn (one_more_input number area) nothing_given list >>= after_given area
 
 -- what is left once the text of a script is read
 abbrev pub after_text : List ℕ → Script → Run (Result CheckedScript ScriptEnd)
@@ -63,6 +64,18 @@ pub makes_out : {X Y : Type 0} (Is : X → Y → Type 0) (run : Run (Result X Sc
     Meets (why_by why) run old new (stopped_by (stop_outcome d)) → MakesFor Is run old new result
 makes_out Is run old new (Ok y) d is m = absurd is
 makes_out Is run old new (Err e) d is m = subst (λ e. Meets (why_by why) run old new (stopped_by (stop_outcome e))) (sym is) m
+
+-- a part was done before a call that makes what is left
+pub makes_on : {W X Y : Type 0} (Is All : X → Y → Type 0) (run : Run (Result W ScriptEnd)) (next : W → Run (Result X ScriptEnd)) (old mid new : FolderState) (w : W) → Meets (why_by why) run old mid (CameTo (Ok w)) →
+    ((x : X) (y : Y) → Is x y → All x y) → (r : Result Y Stop) → MakesFor Is (next w) mid new r → MakesFor All (run >>= next) old new r
+makes_on Is All run next old mid new w m more (Ok y) made = (made.0, more made.0 y made.1, meets_on why run next old mid new w (CameTo (Ok made.0)) m made.2)
+makes_on Is All run next old mid new w m more (Err at) made = meets_on why run next old mid new w (stopped_by (stop_outcome at)) m made
+
+-- a `?` hands an error on, where the value is seen otherwise
+pub seen_out : {T X : Type 0} (view : T → X) (run : Run (Result X ScriptEnd)) (old new : FolderState) (result : Result T Stop) (d : Stop) → IsErrAnd result (λ e. e ≡ d) →
+    Meets (why_by why) run old new (stopped_by (stop_outcome d)) → Meets (why_by why) run old new (outcome_by stop_outcome (seen_by view result))
+seen_out view run old new (Ok x) d is m = absurd is
+seen_out view run old new (Err e) d is m = subst (λ e. Meets (why_by why) run old new (stopped_by (stop_outcome e))) (sym is) m
 
 -- a script that is built and has no fault, with its settled statements
 script_checked : (name : List ℕ) (script : Script) (lines : List Line) → is_unbuilt script ≡ false → meaning script ≡ Ok lines → checked_script name script ≡ Ok (record { script = script; lines = lines })
@@ -83,64 +96,63 @@ program_made name script old mid (Err at) lowered stops m =
     meets_on why (text_run name) (after_text name) old mid mid script (stopped_by (stop_outcome at)) m
     (meets_settled (why_by why) (checked_script name script) mid (stopped_by (stop_outcome at)) stops)
 
--- inputs that were read are known
-pub ready_knows : (program : Program) (inputs : Inputs) → HasNoSteps program → AreInputsOf program.inputs inputs → Knows program (whole_span program) (known_of inputs)
-ready_knows program inputs stepless are = record {
-  some_rows = are.size.some_rows;
-  some_cols = are.size.some_cols;
-  few = are.size.few;
-  maps = grid_maps (inputs.frame.rows * inputs.frame.cols) program.inputs inputs.maps stepless.inputs are.maps;
-  tables = none_known is_table_role IsTableOf refl program.inputs stepless.inputs;
-  series = none_known is_series_role (λ input series. HasSeriesKind input.kind series) refl program.inputs stepless.inputs;
-  outside = tt;
-}
+-- what is left once the tasks are counted
+abbrev pub after_count : Plan → Unit {0} → Run (Result Tally ScriptEnd)
+after_count plan few = tallied plan.steps (plan_run plan)
 
 -- ---- what was read is run
 
-module _ (l : Loaded) (program : Program) (for : IsProgramFor (record { script = l.script; lines = l.lines }) program) (inputs : Inputs) (same : inputs ≡ l.inputs) (are : AreInputsOf program.inputs inputs) where
+module _ (l : Loaded) (program : Program) (for : IsProgramFor (record { script = l.script; lines = l.lines }) program) (inputs : Inputs) (same : inputs ≡ l.inputs) where
   -- its program reports what its statements do
-  reports_same : outputs_over program inputs ≡ reports_of l.script l.lines l.inputs
-  reports_same =
-      let knows = ready_knows program inputs (no_steps l.script program for.lowered) are in
-      for.lowered.values.same (known_of inputs) knows ∙ (ap (λ list. script_reports l.script for.lowered.lines (scene_of list (known_of inputs) 0)) for.lowered.program_of.inputs ∙
-      (ap (λ lines. reports_of l.script lines inputs) for.lines ∙ ap (reports_of l.script l.lines) same))
+  reports_same : (grids : List (List StepMap)) (n : ℕ) → outputs_over program inputs grids n ≡ reports_of l.script l.lines l.inputs grids n
+  reports_same grids n =
+      for.lowered.values.same (scenes_over program.inputs inputs grids) (λ k. refl) n ∙ (ap (λ list. script_reports l.script for.lowered.lines (scenes_over list inputs grids) n) for.lowered.program_of.inputs ∙
+      (ap (λ lines. reports_of l.script lines inputs grids n) for.lines ∙ ap (λ i. reports_of l.script l.lines i grids n) same))
+
+  -- its plan is that of its statements
+  pub plan_same : program_plan program inputs ≡ plan_of l
+  plan_same =
+      let plan : Inputs → List InputUse → List Shown → ℕ → (List (List StepMap) → ℕ → Result (List Written) OverAt) → Plan = λ inputs uses shown steps reports. record {
+        frame = inputs.frame;
+        steps = steps;
+        stacks = stacks_among 0 uses;
+        samples = all_begun (at_inputs is_grid_role [] uses inputs.maps) shown;
+        reports = reports;
+      } in
+      let bound = binding_of l.script in
+      ap (plan inputs program.inputs (map as_shown program.outputs) program.steps) reports_all
+      ∙ (ap (λ uses. plan inputs uses (map as_shown program.outputs) program.steps (reports_of l.script l.lines l.inputs)) for.lowered.program_of.inputs
+      ∙ (ap (λ shown. plan inputs (inputs_of l.script) shown program.steps (reports_of l.script l.lines l.inputs)) (for.lowered.program_of.outputs ∙ ap (outputs_from bound 1) for.lines)
+      ∙ (ap (λ steps. plan inputs (inputs_of l.script) (outputs_from bound 1 l.lines) steps (reports_of l.script l.lines l.inputs)) for.lowered.program_of.steps
+      ∙ ap (λ i. plan i (inputs_of l.script) (outputs_from bound 1 l.lines) l.script.steps (reports_of l.script l.lines l.inputs)) same)))
+    where
+      reports_all : outputs_over program inputs ≡ reports_of l.script l.lines l.inputs
+      reports_all = λ i. λ grids n. reports_same grids n i
 
   -- its program is run as it is
-  pub start_same : (admits : Program → ℕ → ℕ → Option ℕ) (many : Script → Many) → CountsTasks admits many →
-      start_run (admits program inputs.frame.rows inputs.frame.cols) (outputs_over program inputs) program.steps inputs.frame ≡ loaded_run many l
+  pub start_same : (admits : Program → ℕ → ℕ → Option ℕ) (many : Script → Many) → CountsTasks admits many → start_run (admits program inputs.frame.rows inputs.frame.cols) (program_plan program inputs) ≡ loaded_run many l
   start_same admits many counts =
-      let frame = inputs.frame in
-      let first : start_run (admits program frame.rows frame.cols) (outputs_over program inputs) program.steps frame ≡ start_run (many l.script frame.rows frame.cols) (outputs_over program inputs) program.steps frame =
-      ap (λ m. start_run m (outputs_over program inputs) program.steps frame) (sym (counts l.script program for.lowered frame.rows frame.cols)) in
-      let second : start_run (many l.script frame.rows frame.cols) (outputs_over program inputs) program.steps frame ≡ start_run (many l.script frame.rows frame.cols) (reports_of l.script l.lines l.inputs) program.steps frame =
-      ap (λ r. start_run (many l.script frame.rows frame.cols) r program.steps frame) reports_same in
-      let third : start_run (many l.script frame.rows frame.cols) (reports_of l.script l.lines l.inputs) program.steps frame ≡ start_run (many l.script frame.rows frame.cols) (reports_of l.script l.lines l.inputs) l.script.steps frame =
-      ap (λ n. start_run (many l.script frame.rows frame.cols) (reports_of l.script l.lines l.inputs) n frame) for.lowered.program_of.steps in
-      let fourth : start_run (many l.script frame.rows frame.cols) (reports_of l.script l.lines l.inputs) l.script.steps frame ≡ loaded_run many l =
-      ap (λ (i : Inputs). start_run (many l.script i.frame.rows i.frame.cols) (reports_of l.script l.lines l.inputs) l.script.steps i.frame) same in
-      first ∙ (second ∙ (third ∙ fourth))
+      ap (λ m. start_run m (program_plan program inputs)) (sym (counts l.script program for.lowered inputs.frame.rows inputs.frame.cols))
+      ∙ (ap (start_run (many l.script inputs.frame.rows inputs.frame.cols)) plan_same
+      ∙ ap (λ (i : Inputs). start_run (many l.script i.frame.rows i.frame.cols) (plan_of l)) same)
 
   -- what the runner was asked for is the run of what was read
-  pub asked_same : (asked : List RunOf → Type 0) (block : ℕ) (name : List ℕ) (old mid : FolderState) → Meets (why_by why) (load_run name) old mid (CameTo (Ok l)) → WasRun asked program inputs → WasAsked asked block name old.holds
-  asked_same asked block name old mid m run = record {
-    loaded = l;
-    read = if_told old.holds (λ files. Follows (load_run name files) files old mid (CameTo (Ok l))) (λ files. Ok l ≡ (load_run name files).end) (λ files f. f.0) m.follows;
-    program = program;
-    lowered = for.lowered;
-    runs = record { program = program; span = whole_span program; known = known_of inputs } ∷ [];
-    each = (
+  pub was_asked : (before after : List RunOf → Type 0) (name : List ℕ) (old mid new : FolderState) → Meets (why_by why) (load_run name) old mid (CameTo (Ok l)) → before [] → HasRun before after program inputs mid new → WasAsked after name old.holds
+  was_asked before after name old mid new m none run =
+      let asks = run.asks none in
+      let P : Plan → Type 0 = λ plan. Meets (why_by why) (plan_run plan) mid new (CameTo (Ok run.standing)) in
+      let stands = meets_on why (load_run name) (λ l. plan_run (plan_of l)) old mid new l (CameTo (Ok run.standing)) m (subst P plan_same run.meets) in
       record {
-        program_same = refl;
-        span_same = refl;
-        knows = ready_knows program inputs (no_steps l.script program for.lowered) are;
-        rows = ap (λ (i : Inputs). i.frame.rows) same;
-        cols = ap (λ (i : Inputs). i.frame.cols) same;
-        maps = ap (λ (i : Inputs). i.maps) same;
-      },
-      tt,
-    );
-    was = run;
-  }
+        loaded = l;
+        read = if_told old.holds (λ files. Follows (load_run name files) files old mid (CameTo (Ok l))) (λ files. Ok l ≡ (load_run name files).end) (λ files f. f.0) m.follows;
+        standing = run.standing;
+        stands = if_told old.holds (λ files. Follows (stands_run name files) files old new (CameTo (Ok run.standing))) (λ files. Ok run.standing ≡ (stands_run name files).end) (λ files f. f.0) stands.follows;
+        program = program;
+        lowered = for.lowered;
+        runs = asks.0;
+        each = subst (λ i. AreRunsOf program i run.standing.grids (all_steps program) asks.0) same asks.1;
+        was = asks.2;
+      }
 
 -- ---- ends
 

@@ -1,17 +1,15 @@
 -- A kept map is found by halves.
 use Rattle.std.proofs.Common.{zero, suc, ◌≡◌, ℕ, ◌+◌, ◌<◌, ◌≤◌, Bool, true, false, cond, List, [], ◌∷◌, length, get_or, Ok, Err, refl, sym, ap, ◌∙◌, arith}
-use Rattle.std.specs.Prelude.{◌==◌}
 use Rattle.std.specs.List.Sorted.{IsBinarySearchResult, IsNonDecreasingBy}
 use Rattle.std.specs.Ordering.{nat_cmp, ordering_index}
 use Rattle.std.proofs.lemmas.Bool.{eq-eqb, ne_eqb}
 use Rattle.std.proofs.lemmas.Bool.Decides.{nat_tests}
 use Rattle.std.proofs.lemmas.Cmp.{ranked}
-use Rattle.std.proofs.lemmas.List.Folds.{list_any_none}
 use Rattle.map_meaning.specs.declared.known.StepMap.{StepMap}
 use Rattle.map_meaning.specs.declared.program.Operation.{Operation}
 use Rattle.map_meaning.specs.Maps.{WholeMap, nth}
-use Rattle.map_meaning.specs.Spans.{kept_map, kept_maps}
-use Rattle.run_session.specs.inside.Parts.{AscendFrom, has_kept}
+use Rattle.map_meaning.specs.Spans.{AreAscending, kept_map, kept_maps}
+use Rattle.run_session.specs.inside.Standings.{AscendFrom}
 
 -- ---- the kept maps ascend
 
@@ -54,6 +52,23 @@ at_place n (m ∷ maps) (suc i) d up below =
     let later : m.operation + 1 ≤ k = at_least (m.operation + 1) maps i d up.1 (omega (arith, below)) in
     ap (λ b. cond b m.cells (kept_map maps k)) (ne_eqb m.operation k (λ e. omega (arith, e, later))) ∙ at_place (m.operation + 1) maps i d up.1 (omega (arith, below))
 
+-- no map of this number
+none_kept : (maps : List StepMap) (n : ℕ) → ((j : ℕ) (d : StepMap) → j < length maps → (get_or maps j d).operation ≡ n → ⊥) → kept_map maps n ≡ []
+none_kept [] n other = refl
+none_kept (m ∷ maps) n other = ap (λ b. cond b m.cells (kept_map maps n)) (ne_eqb m.operation n (other 0 m (omega arith))) ∙ none_kept maps n (λ j d below. other (suc j) d (omega (arith, below)))
+
+-- the numbers ascend along the maps
+strictly : (n : ℕ) (maps : List StepMap) → AscendFrom n maps → (i j : ℕ) (d : StepMap) → i < j → j < length maps → (get_or maps i d).operation < (get_or maps j d).operation
+strictly n [] up i j d before below = absurd (omega (arith, below))
+strictly n (m ∷ maps) up zero zero d before below = absurd (omega (arith, before))
+strictly n (m ∷ maps) up zero (suc j) d before below = omega (arith, at_least (m.operation + 1) maps j d up.1 (omega (arith, below)))
+strictly n (m ∷ maps) up (suc i) zero d before below = absurd (omega (arith, before))
+strictly n (m ∷ maps) up (suc i) (suc j) d before below = strictly (m.operation + 1) maps up.1 i j d (omega (arith, before)) (omega (arith, below))
+
+-- maps that ascend from a number on ascend
+pub are_ascending : (maps : List StepMap) → AscendFrom 0 maps → AreAscending maps
+are_ascending maps up i j d = strictly 0 maps up i j d
+
 module _ (maps : List StepMap) (up : AscendFrom 0 maps) (n : ℕ) where
   -- the comparisons with the number rise along the maps, as a search by halves asks
   comparisons_rise : IsNonDecreasingBy (λ m. ordering_index (nat_cmp m.operation n)) maps
@@ -65,9 +80,6 @@ module _ (maps : List StepMap) (up : AscendFrom 0 maps) (n : ℕ) where
       let same : (get_or maps i d).operation ≡ n = ranked _ n _ (sym (equal d)) in
       ap (kept_map maps) (sym same) ∙ at_place 0 maps i d up below
 
-  -- a map that is kept is found
-  pub search_ends : (i : ℕ) → IsBinarySearchResult (λ m. nat_cmp m.operation n) maps (Err i) → has_kept n maps ≡ true → ⊥
-  search_ends i parted has =
-      let other : (j : ℕ) (d : StepMap) → j < length maps → ((get_or maps j d).operation ≡ n → ⊥) = λ j d below same. grind (arith, nat_tests, (parted comparisons_rise).0 j d (omega arith), (parted comparisons_rise).1 j d) in
-      let none : has_kept n maps ≡ false = list_any_none (λ m. m.operation == n) maps (λ j d below. ne_eqb (get_or maps j d).operation n (other j d below)) in
-      cc
+  -- no map is kept where none is found
+  pub search_ends : (i : ℕ) → IsBinarySearchResult (λ m. nat_cmp m.operation n) maps (Err i) → kept_map maps n ≡ []
+  search_ends i parted = none_kept maps n (λ j d below same. grind (arith, nat_tests, (parted comparisons_rise).0 j d (omega arith), (parted comparisons_rise).1 j d))

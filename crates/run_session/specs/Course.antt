@@ -1,35 +1,41 @@
 -- The course of a script: its reads and puts in order and its end, by its text, its files and a count of tasks.
-use Rattle.std.specs.Prelude.{ℕ, List, [], ◌∷◌, ◌++◌, ◌==◌, ◌&&◌, Bool, length, slice_index_or, Some, None, Ok, Err, Result, if◌then◌else◌}
+use Rattle.std.specs.Prelude.{ℕ, ◌+◌, List, [], ◌∷◌, ◌++◌, ◌==◌, slice_index_or, Some, None, Ok, Err, Result, if◌then◌else◌}
 use Rattle.std.specs.declared.option.Option.{Option}
 use Rattle.text_base.specs.Limits.{most_script_bytes, most_text_bytes}
-use Rattle.cell_values.specs.declared.kind.Kind.{Kind}
 use Rattle.cell_values.specs.declared.kind.Kind.TheVariants.{Scalar}
 use Rattle.outside_io.specs.Events.{Run}
-use Rattle.outside_io.specs.Runs.{◌>>=◌, settled, reading, putting, in_turn, end_as}
+use Rattle.outside_io.specs.Runs.{◌>>=◌, settled, reading, in_turn, end_as}
 use Rattle.script_syntax.specs.declared.fault.SyntaxFault.{SyntaxFault}
 use Rattle.script_syntax.specs.declared.tree.Script.{Script}
 use Rattle.script_syntax.specs.inside.Reading.{tree_of}
 use Rattle.grid_text.specs.declared.grid.Grid.{Grid}
-use Rattle.grid_text.specs.declared.fault.GridFault.{GridFault}
-use Rattle.grid_text.specs.inside.Reading.{grid_of}
-use Rattle.grid_text.specs.Written.{written_grid}
-use Rattle.map_meaning.specs.declared.known.OverAt.{OverAt}
+use Rattle.lookup_table.specs.declared.fault.TableFault.{TableFault}
+use Rattle.lookup_table.specs.Form.{TableValue}
+use Rattle.lookup_table.specs.inside.Reading.{table_of}
+use Rattle.time_series.specs.declared.fault.SeriesFault.{SeriesFault}
+use Rattle.time_series.specs.Form.{SeriesValue}
+use Rattle.time_series.specs.inside.Reading.{series_of}
 use Rattle.map_meaning.specs.declared.program.InputUse.{InputUse}
+use Rattle.map_meaning.specs.declared.program.Role.{Role}
 use Rattle.map_meaning.specs.declared.program.Role.TheVariants as role
 use Rattle.map_meaning.specs.Maps.{WholeMap}
+use Rattle.map_meaning.specs.Programs.{is_grid_role}
+use Rattle.map_meaning.specs.Spans.{at_inputs}
 use Rattle.script_types.specs.declared.fault.MeaningFault.{MeaningFault}
 use Rattle.script_types.specs.declared.typed.Line.{Line}
-use Rattle.script_types.specs.Lowered.{inputs_of, area_number}
+use Rattle.script_types.specs.Lowered.{area_number, inputs_of, outputs_from}
 use Rattle.script_types.specs.Meaning.{meaning}
-use Rattle.script_types.specs.Values.{Written}
+use Rattle.script_types.specs.Names.{binding_of}
 use Rattle.script_types.specs.Unbuilt.{is_unbuilt}
 use Rattle.run_session.specs.declared.ends.InputKind.TheVariants as inputs
 use Rattle.run_session.specs.declared.ends.ScriptFault.TheVariants as faults
 use Rattle.run_session.specs.declared.ends.Tally.{Tally}
-use Rattle.run_session.specs.declared.inputs.Frame.{Frame}
+use Rattle.run_session.specs.declared.frame.Frame.{Frame}
 use Rattle.run_session.specs.declared.inputs.Inputs.{Inputs}
-use Rattle.run_session.specs.Ends.{ScriptEnd, Missing, TooLong, Script as ScriptIs, Unbuilt, Input, TooManyTasks, Overflow, script_end}
+use Rattle.run_session.specs.Ends.{ScriptEnd, Missing, TooLong, Script as ScriptIs, Unbuilt, Input, TooManyTasks, script_end}
 use Rattle.run_session.specs.Evaluation.{reports_of}
+use Rattle.run_session.specs.Samples.{all_begun}
+use Rattle.run_session.specs.Steps.{Plan, grid_run, map_run, plan_run, stacks_among, tallied}
 
 -- ---- the script
 
@@ -66,55 +72,97 @@ checked_run name = do
 
 -- ---- the inputs
 
--- the grid of a text, or the end of the run at the text's first fault
-abbrev pub or_input : List ℕ → Result Grid GridFault → Result Grid ScriptEnd
-or_input name (Ok grid) = Ok grid
-or_input name (Err fault) = Err (Input name (inputs.Grid fault))
+-- the table of a text, or the end of the run at the text's first fault
+abbrev pub or_table : List ℕ → Result TableValue TableFault → Result TableValue ScriptEnd
+or_table name (Ok table) = Ok table
+or_table name (Err fault) = Err (Input name (inputs.Table fault))
 
--- a grid is read, then its text
-abbrev pub grid_run : Kind → List ℕ → Run (Result Grid ScriptEnd)
-grid_run kind name = do
-  text ← reading Missing TooLong name most_text_bytes
-  settled (or_input name (grid_of kind text))
+-- a table of so many keys is read, then its text
+abbrev pub table_run : ℕ → InputUse → Run (Result TableValue ScriptEnd)
+table_run keys input = do
+  text ← reading Missing TooLong input.file most_text_bytes
+  settled (or_table input.file (table_of keys input.kind text))
 
--- whether two grids have as many rows and as many columns
-abbrev pub same_size : Grid → Grid → Bool
-same_size a b = (a.rows == b.rows) && (a.cols == b.cols)
+-- the series of a text, or the end of the run at the text's first fault
+abbrev pub or_series : List ℕ → Result SeriesValue SeriesFault → Result SeriesValue ScriptEnd
+or_series name (Ok series) = Ok series
+or_series name (Err fault) = Err (Input name (inputs.Series fault))
 
--- the map of the grid of this name, or the end of the run where it has not the size of the area map
-abbrev pub or_size : Grid → List ℕ → Grid → Result WholeMap ScriptEnd
-or_size area name grid = if same_size grid area then Ok grid.cells else Err (Input name (inputs.Size grid.rows grid.cols))
+-- a series is read, then its text
+abbrev pub timed_run : InputUse → Run (Result SeriesValue ScriptEnd)
+timed_run input = do
+  text ← reading Missing TooLong input.file most_text_bytes
+  settled (or_series input.file (series_of input.kind text))
 
--- the map of an input is read, then its text and its size
-abbrev pub map_run : Grid → InputUse → Run (Result WholeMap ScriptEnd)
-map_run area input = do
-  grid ← grid_run input.kind input.file
-  settled (or_size area input.file grid)
+-- what some inputs give: how many they are, and the map, the table or the series of each that is one
+pub record Given : Type 0 where
+  pub count : ℕ
+  pub maps : List WholeMap
+  pub tables : List TableValue
+  pub series : List SeriesValue
 
--- the map of the input with the number n; the area map, which has the other number, was read before
-abbrev pub input_run : ℕ → Grid → ℕ → InputUse → Run (Result WholeMap ScriptEnd)
-input_run number area n input = if n == number then settled (Ok area.cells) else map_run area input
+-- before any input is read
+abbrev pub nothing_given : Given
+nothing_given = record { count = 0; maps = []; tables = []; series = [] }
 
--- one more input
-abbrev pub one_more_map : ℕ → Grid → List WholeMap → InputUse → Run (Result (List WholeMap) ScriptEnd)
-one_more_map number area maps input = do
-  m ← input_run number area (length maps) input
-  settled (Ok (maps ++ m ∷ []))
+-- the same with one more map
+abbrev pub with_map_given : Given → WholeMap → Given
+with_map_given given m =
+    record { count = given.count + 1; maps = given.maps ++ m ∷ []; tables = given.tables; series = given.series }
 
--- the input with this number; none counts as one without a name
-abbrev pub numbered_input : List InputUse → ℕ → InputUse
-numbered_input list number = slice_index_or list number (record { file = []; role = role.Grid; kind = Scalar })
+-- the same with one more table
+abbrev pub with_table_given : Given → TableValue → Given
+with_table_given given table =
+    record { count = given.count + 1; maps = given.maps; tables = given.tables ++ table ∷ []; series = given.series }
+
+-- the same with one more series
+abbrev pub with_series_given : Given → SeriesValue → Given
+with_series_given given series =
+    record { count = given.count + 1; maps = given.maps; tables = given.tables; series = given.series ++ series ∷ [] }
+
+-- the same with one more stack, which is not read here
+abbrev pub with_stack_given : Given → Given
+with_stack_given given = record { count = given.count + 1; maps = given.maps; tables = given.tables; series = given.series }
 
 -- the size of a grid, and where it lies
 abbrev pub frame_of : Grid → Frame
 frame_of grid = record { rows = grid.rows; cols = grid.cols; head = grid.head }
 
--- the area map, which has this number, is read, and then each other input, in their order
+-- the map of the input with the number n; the area map, which has the other number, was read before
+abbrev pub grid_input_run : ℕ → Grid → ℕ → InputUse → Run (Result WholeMap ScriptEnd)
+grid_input_run number area n input = if n == number then settled (Ok area.cells) else map_run (frame_of area) input.kind input.file
+
+-- one more input is read, by its role
+abbrev pub input_by_role : ℕ → Grid → Given → InputUse → Role → Run (Result Given ScriptEnd)
+input_by_role number area given input role.Grid = do
+  m ← grid_input_run number area given.count input
+  settled (Ok (with_map_given given m))
+input_by_role number area given input (role.Table keys) = do
+  table ← table_run keys input
+  settled (Ok (with_table_given given table))
+input_by_role number area given input role.Series = do
+  series ← timed_run input
+  settled (Ok (with_series_given given series))
+input_by_role number area given input role.Stack = settled (Ok (with_stack_given given))
+
+-- one more input is read
+abbrev pub one_more_input : ℕ → Grid → Given → InputUse → Run (Result Given ScriptEnd)
+one_more_input number area given input = input_by_role number area given input input.role
+
+-- the input with this number; none counts as one without a name
+abbrev pub numbered_input : List InputUse → ℕ → InputUse
+numbered_input list number = slice_index_or list number (record { file = []; role = role.Grid; kind = Scalar })
+
+-- what the inputs give, over the area map
+abbrev pub inputs_given : Grid → Given → Inputs
+inputs_given area given = record { frame = frame_of area; maps = given.maps; tables = given.tables; series = given.series }
+
+-- the area map, which has this number, is read, and then each other input that is no stack, in their order
 abbrev pub inputs_run : List InputUse → ℕ → Run (Result Inputs ScriptEnd)
 inputs_run list number = do
   area ← grid_run (numbered_input list number).kind (numbered_input list number).file
-  maps ← in_turn (one_more_map number area) [] list
-  settled (Ok (record { frame = frame_of area; maps = maps }))
+  given ← in_turn (one_more_input number area) nothing_given list
+  settled (Ok (inputs_given area given))
 
 -- ---- what is read before the first step
 
@@ -136,40 +184,36 @@ load_run name = do
   s ← checked_run name
   inputs_read s
 
--- ---- the section `initial`
-
--- too many tasks end the run
-abbrev pub or_too_many : Option ℕ → Result (Unit {0}) ScriptEnd
-or_too_many None = Ok tt
-or_too_many (Some count) = Err (TooManyTasks count)
-
--- a value, or the end of the run at the first Over
-abbrev pub or_overflow : {X : Type 0} → Result X OverAt → Result X ScriptEnd
-or_overflow (Ok x) = Ok x
-or_overflow (Err at) = Err (Overflow at)
-
--- a report is put, with the size and the place of the area map
-abbrev pub report_run : Frame → Unit {0} → Written → Run (Result (Unit {0}) ScriptEnd)
-report_run frame done report = putting report.file (written_grid report.kind frame.rows frame.cols frame.head report.cells)
-
--- these tasks are not too many, the statements are evaluated, and then what they report is put, in their order
-abbrev pub start_run : Option ℕ → Result (List Written) OverAt → ℕ → Frame → Run (Result Tally ScriptEnd)
-start_run many reports steps frame = do
-  few ← settled (or_too_many many)
-  written ← settled (or_overflow reports)
-  done ← in_turn (report_run frame) tt written
-  settled (Ok (record { files = length written; steps = steps }))
-
 -- ---- the whole
 
 -- a count of tasks that is too large, by a size, or none
 abbrev pub Many : Type 0
 Many = ℕ → ℕ → Option ℕ
 
+-- too many tasks end the run
+abbrev pub or_too_many : Option ℕ → Result (Unit {0}) ScriptEnd
+or_too_many None = Ok tt
+or_too_many (Some count) = Err (TooManyTasks count)
+
+-- what is run of a script without faults, over the inputs that were read: its settled statements, step by step
+abbrev pub plan_of : Loaded → Plan
+plan_of l = record {
+  frame = l.inputs.frame;
+  steps = l.script.steps;
+  stacks = stacks_among 0 (inputs_of l.script);
+  samples = all_begun (at_inputs is_grid_role [] (inputs_of l.script) l.inputs.maps) (outputs_from (binding_of l.script) 1 l.lines);
+  reports = reports_of l.script l.lines l.inputs;
+}
+
+-- these tasks are not too many, and then the plan is run
+abbrev pub start_run : Option ℕ → Plan → Run (Result Tally ScriptEnd)
+start_run many plan = do
+  few ← settled (or_too_many many)
+  tallied plan.steps (plan_run plan)
+
 -- what was read is run
 abbrev pub loaded_run : (Script → Many) → Loaded → Run (Result Tally ScriptEnd)
-loaded_run many l =
-    start_run (many l.script l.inputs.frame.rows l.inputs.frame.cols) (reports_of l.script l.lines l.inputs) l.script.steps l.inputs.frame
+loaded_run many l = start_run (many l.script l.inputs.frame.rows l.inputs.frame.cols) (plan_of l)
 
 -- the script of this name and its inputs are read, and then it is run
 abbrev pub whole_run : (Script → Many) → List ℕ → Run (Result Tally ScriptEnd)

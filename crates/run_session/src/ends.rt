@@ -3,16 +3,22 @@ ghost use Rattle.run_session.specs.declared.ends.Stop.TheVariants as stop;
 
 use cell_values::Word;
 use grid_text::GridFault;
+use lookup_table::TableFault;
 use map_meaning::OverAt;
 use script_syntax::SyntaxFault;
 use script_types::MeaningFault;
 use std::alloc::{AllocError, AllocFailed};
+use time_series::SeriesFault;
 
 /// What is wrong with an input.
 #[derive(Clone, Copy, Debug, PartialEq, Eq)]
 pub enum InputKind {
     /// The text is no grid: its first fault.
     Grid(GridFault),
+    /// The text is no lookup table: its first fault.
+    Table(TableFault),
+    /// The text is no time series: its first fault.
+    Series(SeriesFault),
     /// The grid has other numbers of rows and columns than the area map.
     Size { rows: u32, cols: u32 },
 }

@@ -1,8 +1,12 @@
-ghost use Rattle.std.specs.Prelude.{◌≡◌, ◌++◌, ◌∷◌, [], List, None, IfOk, OnOk};
+//! What the runner is asked for.
+
+ghost use Rattle.std.specs.Prelude.{◌≡◌, ◌++◌, ◌∷◌, [], ℕ, List, None, IfOk, OnOk};
+ghost use Rattle.map_meaning.specs.declared.program.Program.{Program as TheProgram};
 ghost use Rattle.map_meaning.specs.Programs.{IsWellFormed};
-ghost use Rattle.map_meaning.specs.Spans.{Knows, RunOf, stage_of, whole_span};
+ghost use Rattle.map_meaning.specs.Spans.{IsSpan, Knows, RunOf, stage_of};
 ghost use Rattle.run_session.specs.Course.{or_too_many};
-ghost use Rattle.run_session.specs.inside.Parts.{GivesEnd, stage_result};
+ghost use Rattle.run_session.specs.inside.Parts.{GivesEnd};
+ghost use Rattle.run_session.specs.inside.Standings.{stage_result};
 
 use crate::ends::Stop;
 use map_meaning::{BlockRunner, Known, Program, Span, StageEnd, StepMap};
@@ -26,28 +30,27 @@ pub fn admitted<R: BlockRunner>(
     }
 }
 
-/// Has the runner evaluate the section `initial`.
+/// Has the runner evaluate a span.
 pub fn evaluate<R: BlockRunner>(
     alloc: Global,
     runner: &mut R,
     program: &Arc<Program>,
-    known: Known,
+    span: Span,
+    known: &Arc<Known>,
 ) -> Result<Items<StepMap>, Stop>
     requires ready { R.ready runner.old }
     requires program { IsWellFormed program.now.value }
-    requires known { Knows program.now.value (whole_span program.now.value) known }
-    requires admitted { R.admits runner.old program.now.value known.rows known.cols ≡ None }
-    ensures settles { GivesEnd (stage_result (stage_of program.now.value (whole_span program.now.value) known)) result }
+    requires span { IsSpan program.now.value span (R.block_of runner.old) }
+    requires known { Knows program.now.value span known.now.value }
+    requires admitted { R.admits runner.old program.now.value known.now.value.rows known.now.value.cols ≡ None }
+    ensures settles { GivesEnd (stage_result (stage_of program.now.value span known.now.value)) result }
     ensures ready { R.ready runner.new }
+    ensures block { R.block_of runner.new ≡ R.block_of runner.old }
+    ensures admits { (p : TheProgram) (rows cols : ℕ) → R.admits runner.new p rows cols ≡ R.admits runner.old p rows cols }
     ensures asked { (before : List RunOf) → R.asked runner.old before
-        → OnOk result (R.asked runner.new (before ++ record { program = program.now.value; span = whole_span program.now.value; known = known } ∷ [])) }
+        → OnOk result (R.asked runner.new (before ++ record { program = program.now.value; span = span; known = known.now.value } ∷ [])) }
 {
-    let known = Arc::new(alloc, known)?;
-    let span = Span::Initial {
-        first: 0,
-        end: program.initial.len() as u32,
-    };
-    let StageEnd { maps, over } = runner.run(alloc, program, span, &known)?;
+    let StageEnd { maps, over } = runner.run(alloc, program, span, known)?;
     match over {
         None => Ok(maps),
         Some(at) => Err(Stop::Overflow(at)),

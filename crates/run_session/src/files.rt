@@ -1,8 +1,8 @@
-ghost use Rattle.std.specs.Prelude.{◌≤◌, length, IfOk};
+ghost use Rattle.std.specs.Prelude.{◌≤◌, length, IfErr, IfOk};
 ghost use Rattle.outside_io.specs.Runs.{putting, reading};
 ghost use Rattle.outside_io.specs.inside.Parts.{seen_by};
 ghost use Rattle.run_session.specs.Ends.{Missing, TooLong};
-ghost use Rattle.run_session.specs.inside.Parts.{Makes};
+ghost use Rattle.run_session.specs.inside.Parts.{CutsOff, Makes};
 
 use crate::ends::Stop;
 use cell_values::Word;
@@ -43,7 +43,8 @@ pub fn store<F: Folder>(
     name: &[u8],
     bytes: &[u8],
 ) -> Result<(), Stop>
-    ensures { Makes (putting name.now bytes.now) (F.state folder.old) (F.state folder.new) result }
+    ensures meets { Makes (putting name.now bytes.now) (F.state folder.old) (F.state folder.new) result }
+    ensures apart { IfErr result CutsOff }
 {
     let Ok(word) = Word::new(alloc, name) else {
         return Err(Stop::Memory);

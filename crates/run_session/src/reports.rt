@@ -1,28 +1,31 @@
-ghost use Rattle.std.specs.Prelude.{◌≡◌, ◌*◌, true, length, map, All, IfOk};
+//! Grids that are put.
+
+ghost use Rattle.std.specs.Prelude.{◌≡◌, ◌*◌, length, map, All, IfErr, IfOk};
 ghost use Rattle.outside_io.specs.Runs.{in_turn};
 ghost use Rattle.grid_text.specs.Form.{IsSize};
 ghost use Rattle.grid_text.specs.Written.{written_grid};
-ghost use Rattle.map_meaning.specs.Spans.{kept_map};
-ghost use Rattle.run_session.specs.Course.{report_run};
-ghost use Rattle.run_session.specs.inside.Parts.{AscendFrom, IsKeptOutput, Makes, has_kept, kept_of, kept_written};
+ghost use Rattle.run_session.specs.Steps.{report_run};
+ghost use Rattle.run_session.specs.inside.Parts.{CutsOff, Makes};
+ghost use Rattle.run_session.specs.inside.Standings.{AscendFrom, kept_of, kept_report};
 
 use crate::ends::Stop;
 use crate::files::store;
-use crate::inputs::Frame;
+use crate::frame::Frame;
+use crate::kept::kept_cells;
+use cell_values::Cell;
 use grid_text::write_grid;
-use map_meaning::{Operand, OutputUse, StepMap};
+use map_meaning::{Operand, OutputKind, OutputUse, StepMap, stack_file};
 use outside_io::Folder;
 use std::alloc::{AllocError, Global};
 
-// The kept map of the operation with this number.
-fn kept_map(maps: &[StepMap], number: u32) -> &StepMap
-    requires ascend { AscendFrom 0 maps.now }
-    requires kept { has_kept number maps.now ≡ true }
-    ensures { result.now.cells ≡ kept_map maps.now number }
+// The cells that an output writes.
+fn written_cells(maps: &[StepMap], operand: Operand) -> &[Cell]
+    requires { AscendFrom 0 maps.now }
+    ensures { result.now ≡ kept_of maps.now operand }
 {
-    match maps.binary_search_by_key(&number, |map| map.operation) {
-        Ok(place) => &maps[place],
-        Err(_) => unreachable!(),
+    match operand {
+        Operand::Initial(number) | Operand::Now(number) => kept_cells(maps, number),
+        _ => &[],
     }
 }
 
@@ -35,55 +38,60 @@ fn report_text(
 ) -> Result<Vec<u8>, AllocError>
     requires size { IsSize frame.now.rows frame.now.cols }
     requires ascend { AscendFrom 0 maps.now }
-    requires kept { IsKeptOutput (frame.now.rows * frame.now.cols) maps.now output.now }
+    requires count { length (kept_of maps.now output.now.value) ≡ frame.now.rows * frame.now.cols }
     ensures { IfOk result (λ text. text.items ≡ written_grid output.now.cell_kind frame.now.rows frame.now.cols frame.now.head (kept_of maps.now output.now.value)) }
 {
-    let Operand::Initial(number) = output.value else {
-        unreachable!()
-    };
-    let map = kept_map(maps, number);
+    let cells = written_cells(maps, output.value);
     write_grid(
         alloc,
         output.cell_kind,
         frame.rows,
         frame.cols,
         &frame.head,
-        map.cells.cells(),
+        cells,
     )
 }
 
-// Puts what an output writes.
+// Puts what an output writes at a step.
 fn put_report<F: Folder>(
     alloc: Global,
     folder: &mut F,
     frame: &Frame,
+    step: u32,
     maps: &[StepMap],
     output: &OutputUse,
 ) -> Result<(), Stop>
     requires size { IsSize frame.now.rows frame.now.cols }
     requires ascend { AscendFrom 0 maps.now }
-    requires kept { IsKeptOutput (frame.now.rows * frame.now.cols) maps.now output.now }
-    ensures { Makes (report_run frame.now tt (kept_written maps.now output.now)) (F.state folder.old) (F.state folder.new) result }
+    requires count { length (kept_of maps.now output.now.value) ≡ frame.now.rows * frame.now.cols }
+    ensures meets { Makes (report_run frame.now step tt (kept_report maps.now output.now)) (F.state folder.old) (F.state folder.new) result }
+    ensures apart { IfErr result CutsOff }
 {
     let text = report_text(alloc, frame, maps, output)?;
+    if let OutputKind::StackGrid = output.kind {
+        let file = stack_file(alloc, output.file.bytes(), step)?;
+        return store(alloc, folder, file.bytes(), &text);
+    }
     store(alloc, folder, output.file.bytes(), &text)
 }
 
-/// Puts what the outputs write, in their order.
+/// Puts what the outputs write at a step, in their order.
 pub fn put_reports<F: Folder>(
     alloc: Global,
     folder: &mut F,
     frame: &Frame,
+    step: u32,
     maps: &[StepMap],
     outputs: &[OutputUse],
 ) -> Result<(), Stop>
     requires size { IsSize frame.now.rows frame.now.cols }
     requires ascend { AscendFrom 0 maps.now }
-    requires kept { All (IsKeptOutput (frame.now.rows * frame.now.cols) maps.now) outputs.now }
-    ensures { Makes (in_turn (report_run frame.now) tt (map (kept_written maps.now) outputs.now)) (F.state folder.old) (F.state folder.new) result }
+    requires counts { All (λ output. length (kept_of maps.now output.value) ≡ frame.now.rows * frame.now.cols) outputs.now }
+    ensures meets { Makes (in_turn (report_run frame.now step) tt (map (kept_report maps.now) outputs.now)) (F.state folder.old) (F.state folder.new) result }
+    ensures apart { IfErr result CutsOff }
 {
     for output in outputs {
-        put_report(alloc, folder, frame, maps, output)?;
+        put_report(alloc, folder, frame, step, maps, output)?;
     }
     Ok(())
 }

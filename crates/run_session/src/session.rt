@@ -1,67 +1,64 @@
-ghost use Rattle.std.specs.Prelude.{◌≡◌, [], length, OnOk};
+ghost use Rattle.std.specs.Prelude.{◌≡◌, [], IfOk, OnOk};
 ghost use Rattle.script_syntax.specs.declared.tree.Script.{Script as TheScript};
 ghost use Rattle.outside_io.specs.Met.{Meets};
 ghost use Rattle.map_meaning.specs.Programs.{IsWellFormed};
 ghost use Rattle.run_session.specs.Asked.{CountsTasks, IfDone, WasAsked};
 ghost use Rattle.run_session.specs.Course.{Many, script_run, start_run, whole_run};
 ghost use Rattle.run_session.specs.Ends.{session_outcome, why};
-ghost use Rattle.run_session.specs.inside.Parts.{AreInputsOf, HasNoSteps, Makes, WasRun, outputs_over, stop_outcome, tally_of};
+ghost use Rattle.run_session.specs.inside.Parts.{AreInputsOf, Makes, stop_outcome};
+ghost use Rattle.run_session.specs.inside.Running.{IsPrepared};
+ghost use Rattle.run_session.specs.inside.Standings.{program_plan};
+ghost use Rattle.run_session.specs.inside.Tallies.{HasRun, files_put, tally_of};
 
 use crate::ends::{SessionEnd, Stop, Tally};
-use crate::evaluating::{admitted, evaluate};
+use crate::evaluating::admitted;
 use crate::inputs::Inputs;
 use crate::loading::{Ready, load};
-use crate::reports::put_reports;
-use map_meaning::{BlockRunner, Known, Program};
+use crate::start::{prepared, run_plan};
+use crate::work::Work;
+use map_meaning::{BlockRunner, Program};
 use outside_io::Folder;
-use sqlite_items::Items;
 use std::alloc::Global;
 use std::sync::Arc;
 
-// What was done once all outputs of a program are put.
-fn tally(program: &Program) -> Tally
-    ensures { result ≡ tally_of (length program.now.outputs) program.now.steps }
+// What was done once a program is run to its end: each grid of `initial`, each stack at each step and each time series is put.
+fn tally(work: &Work) -> Tally
+    requires { IsPrepared work.now }
+    ensures { result ≡ tally_of (files_put work.now.program.value) work.now.program.value.steps }
 {
+    let outputs = work.program.outputs.len() as u64;
+    let firsts = work.firsts.len() as u64;
+    let grids = work.grids.len() as u64;
+    let steps = work.program.steps;
+    let samples = outputs - firsts - grids;
     Tally {
-        files: program.outputs.len() as u64,
-        steps: program.steps,
+        files: firsts + steps as u64 * grids + samples,
+        steps,
     }
 }
 
-// Evaluates the section `initial` over the inputs, and puts what it reports.
+// Runs a program over its inputs, which are all read.
 fn run_start<F: Folder, R: BlockRunner>(
     alloc: Global,
     folder: &mut F,
     runner: &mut R,
-    program: &Arc<Program>,
+    program: Arc<Program>,
     inputs: Inputs,
 ) -> Result<Tally, Stop>
     requires ready { R.ready runner.old }
-    requires program { IsWellFormed program.now.value }
-    requires start { HasNoSteps program.now.value }
-    requires inputs { AreInputsOf program.now.value.inputs inputs }
-    ensures meets { Makes
-        (start_run (R.admits runner.old program.now.value inputs.frame.rows inputs.frame.cols) (outputs_over program.now.value inputs) program.now.value.steps inputs.frame)
+    requires program { IsWellFormed program.value }
+    requires inputs { AreInputsOf program.value.inputs inputs }
+    ensures meets { Makes (start_run (R.admits runner.old program.value inputs.frame.rows inputs.frame.cols) (program_plan program.value inputs))
         (F.state folder.old) (F.state folder.new) result }
+    ensures run { IfOk result (λ tally. HasRun (R.asked runner.old) (R.asked runner.new) program.value inputs (F.state folder.old) (F.state folder.new)) }
     ensures ready { R.ready runner.new }
-    ensures asked { R.asked runner.old [] → OnOk result (WasRun (R.asked runner.new) program.now.value inputs) }
 {
-    let Inputs { frame, maps } = inputs;
-    admitted(runner, program, frame.rows, frame.cols)?;
-    let known = Known {
-        rows: frame.rows,
-        cols: frame.cols,
-        maps,
-        tables: Items::new(alloc),
-        series: Items::new(alloc),
-        stacks: Items::new(alloc),
-        initial: Items::new(alloc),
-        last: Items::new(alloc),
-    };
-    let kept = evaluate(alloc, runner, program, known)?;
-    let outputs = program.outputs.as_slice();
-    put_reports(alloc, folder, &frame, kept.as_slice(), outputs)?;
-    Ok(tally(program))
+    admitted(runner, &program, inputs.frame.rows, inputs.frame.cols)?;
+    // A runner takes one step at least at a time, and is asked for one.
+    let _block = runner.block();
+    let work = prepared(alloc, program, inputs)?;
+    run_plan(alloc, folder, runner, &work)?;
+    Ok(tally(&work))
 }
 
 // Reads the script of this name and its inputs, and runs it.
@@ -76,10 +73,10 @@ fn run_named<F: Folder, R: BlockRunner>(
         → Makes (whole_run many name.now) (F.state folder.old) (F.state folder.new) result }
     ensures ready { R.ready runner.new }
     ensures asked { let holds = (F.state folder.old).holds in
-        R.asked runner.old [] → OnOk result (WasAsked (R.asked runner.new) (R.block_of runner.old) name.now holds) }
+        R.asked runner.old [] → OnOk result (WasAsked (R.asked runner.new) name.now holds) }
 {
     let Ready { program, inputs } = load(alloc, folder, name)?;
-    run_start(alloc, folder, runner, &program, inputs)
+    run_start(alloc, folder, runner, program, inputs)
 }
 
 // The answer for a stop.
@@ -103,9 +100,11 @@ fn session_end(stop: Stop) -> SessionEnd
 
 /// Runs the script of this name, by the runner, over the files of the folder.
 ///
-/// The script is read, then the area map, then each other input in the order of the section `binding`; the runner
-/// evaluates the section `initial`; and what its statements report is put, in their order, with the head of the area map.
-/// After a put that failed nothing more is put.
+/// The script is read, then the area map, then each other input that is no stack in the order of the section `binding`. The
+/// section `initial` is evaluated, and what its statements report is put, in their order, with the head of the area map. Then
+/// for each step the grids of its stacks are read, the section `dynamic` is evaluated, and what its statements report is put.
+/// At last the time series are put, with a row for each settled step: also where the files end the run at a step, but not after
+/// a fault of the folder, nor where step 0 is not settled. After a put that failed nothing more is put.
 pub fn run_script<F: Folder, R: BlockRunner>(
     alloc: Global,
     name: &[u8],
@@ -117,9 +116,9 @@ pub fn run_script<F: Folder, R: BlockRunner>(
     ensures meets { (many : TheScript → Many) → CountsTasks (R.admits runner.old) many
         → Meets why (script_run many name.now) (F.state folder.old) (F.state folder.new) (session_outcome result) }
     ensures ready { R.ready runner.new }
-    // A runner that keeps a record of its runs has those of the script, where this was run to its end.
+    // A runner of block 1 that keeps a record of its runs has those of the script, where this was run to its end.
     ensures asked { let holds = (F.state folder.old).holds in
-        R.asked runner.old [] → IfDone result (WasAsked (R.asked runner.new) (R.block_of runner.old) name.now holds) }
+        R.block_of runner.old ≡ 1 → R.asked runner.old [] → IfDone result (WasAsked (R.asked runner.new) name.now holds) }
 {
     match run_named(alloc, folder, runner, name) {
         Ok(tally) => SessionEnd::Done {

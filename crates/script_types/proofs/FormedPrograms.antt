@@ -1,13 +1,12 @@
--- That the program of a script is well formed.
-use Rattle.std.proofs.Common.{◌≡◌, ◌<◌, ◌≤◌, ℕ, zero, suc, ◌+◌, ◌-◌, ◌==◌, Bool, true, false, not, ◌&&◌, ◌||◌, List, [], ◌∷◌, ◌++◌, map, filter, length, refl, sym, ap, subst, ◌∙◌, if◌then◌else◌, arith, append-nil, length-append}
-use Rattle.std.specs.Prelude.{All, AllPairs, Option, None, Some, IfSome, Ok, IsTrue, nat_le, nat_lt, slice_get}
+-- That the program of a script is that of its statements, has their values, and is well formed.
+use Rattle.std.proofs.Common.{◌≡◌, ◌<◌, ◌≤◌, ℕ, zero, suc, ◌+◌, ◌==◌, Bool, true, false, not, ◌&&◌, ◌||◌, List, [], ◌∷◌, ◌++◌, map, filter, length, refl, sym, ap, subst, ◌∙◌, if◌then◌else◌, arith, length-append}
+use Rattle.std.specs.Prelude.{Option, None, Some, Ok, IsTrue, nat_le, nat_lt}
 use Rattle.std.specs.Char.{is_ascii_digit}
-use Rattle.std.specs.Option.{is_some, unwrap_or}
 use Rattle.std.specs.List.{find, list_all}
 use Rattle.std.specs.Str.{bytes_eq}
-use Rattle.std.proofs.lemmas.List.{length-map}
-use Rattle.std.proofs.lemmas.Option.{slice_get_within}
-use Rattle.std.proofs.lemmas.Slice.Eq.{bytes_eq-Decides}
+use Rattle.std.proofs.lemmas.List.{length-map, map-append}
+use Rattle.std.proofs.lemmas.List.Folds.{list_all-append}
+use mathlib.Core.Path.{fun_ext}
 use Rattle.text_base.specs.Bytes.{hyphen, is_file_byte, is_letter, is_word_byte, plus, point, underscore}
 use Rattle.text_base.specs.Limits.{longest_word}
 use Rattle.text_base.specs.Words.{begins_word, is_file_word}
@@ -20,32 +19,37 @@ use Rattle.script_syntax.specs.declared.tree.Script.{Script}
 use Rattle.script_syntax.specs.declared.tree.Target.{Target}
 use Rattle.script_syntax.specs.declared.tree.Target.TheVariants as target
 use Rattle.map_meaning.specs.declared.program.InputUse.{InputUse}
-use Rattle.map_meaning.specs.declared.program.Operand.TheVariants.{Initial}
-use Rattle.map_meaning.specs.declared.program.Operation.{Operation}
-use Rattle.map_meaning.specs.declared.program.OutputKind.TheVariants.{InitialGrid}
-use Rattle.map_meaning.specs.declared.program.OutputUse.{OutputUse}
+use Rattle.map_meaning.specs.declared.program.Operand.{Operand}
 use Rattle.map_meaning.specs.declared.program.Program.{Program}
-use Rattle.map_meaning.specs.declared.program.Role.TheVariants.{Grid}
-use Rattle.map_meaning.specs.Programs.{AreStepOperations, IsInput, IsOutput, IsWellFormed, StandsBefore, SuitsRole, is_stack_grid, is_stack_role}
+use Rattle.map_meaning.specs.Programs.{IsOutput, IsWellFormed, StandsBefore, SuitsRole, is_initial_grid, is_stack_role}
 use Rattle.script_types.specs.declared.typed.Line.{Line}
-use Rattle.script_types.specs.declared.typed.UsedAs.{UsedAs}
-use Rattle.script_types.specs.declared.typed.UsedAs.TheVariants as used
+use Rattle.script_types.specs.declared.typed.Section.{Section}
+use Rattle.script_types.specs.declared.typed.Section.TheVariants.{Initial, Dynamic}
 use Rattle.script_types.specs.Answers.{IsProgramOf}
-use Rattle.script_types.specs.Lowered.{area_number, grid_input, input_of, inputs_of, outputs_from, total_operations}
+use Rattle.script_types.specs.Lowered.{as_listed, as_shown, form_by, grid_input, input_of, inputs_of, lines_in, outputs_from, total_operations}
 use Rattle.script_types.specs.Meaning.{meaning}
-use Rattle.script_types.specs.Names.{binding_of, file_by, inputs_before, is_assigned, is_bound_to_number, is_input_by, is_number_target, is_used, place_from, target_file, used_inputs}
+use Rattle.script_types.specs.Names.{binding_of, file_by, is_assigned, is_input_by, is_number_target, is_used, target_file, used_inputs}
 use Rattle.script_types.specs.Reports.{Bound, area_files, file_written}
-use Rattle.script_types.specs.Statements.{operations_of}
 use Rattle.script_types.specs.Unbuilt.{is_unbuilt}
-use Rattle.script_types.specs.inside.FitLines.{LinesFit}
-use Rattle.script_types.specs.inside.Forms.{AreGrids, HaveForms}
+use Rattle.script_types.specs.Values.{AreInOrder, HasValues, Scenes, after_steps, done_steps, is_output_of, program_reports, script_reports}
+use Rattle.script_types.specs.inside.FitLines.{Frame, LinesFit, script_frame}
+use Rattle.script_types.specs.inside.Programs.{IsProgramWritten, nothing_held}
+use Rattle.script_types.specs.inside.Sections.{HaveForm}
+use Rattle.script_types.specs.inside.Sound.{are_sound, is_sound}
+use Rattle.script_types.specs.inside.Written.{AreIn, AreValuesOf, HaveValues, carried_or, held_before, held_below, last_number, outputs_with, own_or}
 use Rattle.script_types.proofs.FitLemmas.{both-left, both-right}
-use Rattle.script_types.proofs.FoundInputs.{bound-first, found-input}
+use Rattle.script_types.proofs.FoundInputs.{bound-first}
+use Rattle.script_types.proofs.InputForms.{area-form}
+use Rattle.script_types.proofs.KeptPrograms.{IsKeptAs, dynamic-count, initial-count, listed-where, operations-same, reports-same, step-operations-same}
 use Rattle.script_types.proofs.Orders.{operations-below, operations-order, outputs-few, outputs-order}
-use Rattle.script_types.proofs.Outputs.{AllHave, kept-count, operations-formed, outputs-formed}
-use Rattle.script_types.proofs.Pairwise.{Each, Pairs, all-each, all-pairs, each-append, each-map, each-weaken}
+use Rattle.script_types.proofs.Outputs.{SamplesFit, dynamic-form, initial-form, outputs-there, samples-fit, shown-both, shown-with}
+use Rattle.script_types.proofs.Pairwise.{Each, all-each, all-pairs, each-append, each-map, each-weaken}
+use Rattle.script_types.proofs.ProgramValues.{all-agree, around-dynamic, around-initial, begun-dynamic, begun-initial, forms-pass, own-outputs, reported-written, reports-agree}
 use Rattle.script_types.proofs.RowKinds.{both-are}
-use Rattle.script_types.proofs.SettledFits.{HasLines, has-lines, lines-fit, lines-named}
+use Rattle.script_types.proofs.SectionLines.{HaveOrder, in-section, lines-order, sections-fit}
+use Rattle.script_types.proofs.SettledFits.{has-lines, lines-fit, lines-named, lines-sound}
+use Rattle.script_types.proofs.SettledInputs.{area-grid, each-first, each-last, inputs-suit}
+use Rattle.script_types.proofs.SettledStacks.{few-stack-outputs, few-stacks-read}
 
 -- ---- names are file words
 
@@ -121,88 +125,13 @@ no-number true h = cc
 input-files : (script : Script) → IsWellMade script → Each (λ i. is_file_word i.file ≡ true) (inputs_of script)
 input-files script hm =
     let p = is_input_by (is_assigned script) (is_used script) in
-    each-append (λ (i : InputUse). is_file_word i.file ≡ true) (map (λ file. grid_input file Scalar) (area_files (binding_of script script.area) script.area)) (map input_of (used_inputs script))
+    each-append (λ (i : InputUse). is_file_word i.file ≡ true) (map (λ file. grid_input file Scalar) (area_files (binding_of script script.area) script.area)) (map (input_of script) (used_inputs script))
     (area-file (binding_of script script.area))
-    (each-map input_of (λ i. is_file_word i.file ≡ true) (used_inputs script) (used-files p script.bindings (λ b h. no-number (is_number_target b.target) (both-left (not (is_number_target b.target)) (not (is_assigned script b.name)) (both-left (not (is_number_target b.target) && not (is_assigned script b.name)) (is_used script b.name) h))) hm.bindings))
+    (each-map (input_of script) (λ i. is_file_word i.file ≡ true) (used_inputs script) (used-files p script.bindings (λ b h. no-number (is_number_target b.target) (both-left (not (is_number_target b.target)) (not (is_assigned script b.name)) (both-left (not (is_number_target b.target) && not (is_assigned script b.name)) (is_used script b.name) h))) hm.bindings))
   where
     area-file : (o : Option Binding) → Each (λ (i : InputUse). is_file_word i.file ≡ true) (map (λ file. grid_input file Scalar) (area_files o script.area))
     area-file None = (hm.area, tt)
     area-file (Some b) = tt
-
-each-at : {A : Type 0} (P : A → Type 0) (xs : List A) (n : ℕ) (x : A) → Each P xs → slice_get xs n ≡ Some x → P x
-each-at P [] n x h e = absurd (let z = e in cc)
-each-at P (y ∷ xs) zero x h e = let z : y ≡ x = cc in subst P z h.0
-each-at P (y ∷ xs) (suc n) x h e = each-at P xs n x h.1 e
-
-each-of : {A : Type 0} (P : A → Type 0) (xs : List A) → ((x : A) → P x) → Each P xs
-each-of P [] f = tt
-each-of P (x ∷ xs) f = (f x, each-of P xs f)
-
--- all inputs are grids
-pub inputs-grids : (script : Script) → AreGrids (inputs_of script)
-inputs-grids script = λ n i e. each-at (λ (x : InputUse). x.role ≡ Grid) (inputs_of script) n i
-    (each-append (λ (x : InputUse). x.role ≡ Grid) (map (λ file. grid_input file Scalar) (area_files (binding_of script script.area) script.area)) (map input_of (used_inputs script))
-    (each-map (λ file. grid_input file Scalar) (λ x. x.role ≡ Grid) (area_files (binding_of script script.area) script.area) (each-of (λ file. Grid ≡ Grid) (area_files (binding_of script script.area) script.area) (λ file. refl)))
-    (each-map input_of (λ x. x.role ≡ Grid) (used_inputs script) (each-of (λ b. Grid ≡ Grid) (used_inputs script) (λ b. refl)))) e
-
--- ---- the area map
-
-none-if : (t u : Bool) (k : ℕ) (c : Binding) (left : List Binding) (name : List ℕ) (rest : Option Binding) → bytes_eq name c.name ≡ t → (rest ≡ None → (j : ℕ) → place_from j left name ≡ None) → (if t then Some c else rest) ≡ None → place_from k (if u then c ∷ left else left) name ≡ None
-none-if true u k c left name rest ht ih h = cc
-none-if false true k c left name rest ht ih h = ap (λ t. if t then Some k else place_from (k + 1) left name) ht ∙ ih h (k + 1)
-none-if false false k c left name rest ht ih h = ih h k
-
--- a name that is not bound is none of those that pass
-none-among : (p : Binding → Bool) (name : List ℕ) (k : ℕ) (bs : List Binding) → find (λ c. bytes_eq name c.name) bs ≡ None → place_from k (filter p bs) name ≡ None
-none-among p name k [] h = refl
-none-among p name k (c ∷ cs) h = none-if (bytes_eq name c.name) (p c) k c (filter p cs) name (find (λ x. bytes_eq name x.name) cs) refl (λ g j. none-among p name j cs g) h
-
-file-of : (to : Target) → is_number_target to ≡ false → (file : List ℕ) × (to ≡ target.File file)
-file-of (target.File file) h = (file, refl)
-file-of (target.Number text) h = absurd (true-false h)
-  where
-    true-false : true ≡ false → ⊥
-    true-false z = grind (arith, z)
-
--- the area map is the first use of its name
-area-used : (script : Script) → is_used script script.area ≡ true
-area-used script = by-name (bytes_eq script.area script.area) _ ((bytes_eq-Decides script.area script.area).1 refl)
-  where
-    by-name : (t : Bool) (rest : Option UsedAs) → t ≡ true → is_some (if t then Some used.Grid else rest) ≡ true
-    by-name true rest h = refl
-    by-name false rest h = cc
-
--- the area map is an input
-area-there : (script : Script) (lines : List Line) → HasLines script lines → (i : InputUse) × (slice_get (inputs_of script) (area_number script) ≡ Some i)
-area-there script lines h = by-bound (binding_of script script.area) refl
-  where
-    at-none : place_from 1 (used_inputs script) script.area ≡ None → (o : Option Binding) → o ≡ None → slice_get (map (λ file. grid_input file Scalar) (area_files o script.area) ++ map input_of (used_inputs script)) (unwrap_or (place_from (inputs_before o) (used_inputs script) script.area) 0) ≡ Some (grid_input script.area Scalar)
-    at-none hp None e = ap (λ n. slice_get (grid_input script.area Scalar ∷ map input_of (used_inputs script)) (unwrap_or n 0)) hp
-    at-none hp (Some b) e = absurd (some-none e)
-      where
-        some-none : Some b ≡ None → ⊥
-        some-none z = absurd (let w = z in cc)
-
-    by-bound : (o : Option Binding) → binding_of script script.area ≡ o → (i : InputUse) × (slice_get (inputs_of script) (area_number script) ≡ Some i)
-    by-bound None e = (grid_input script.area Scalar, at-none (none-among (is_input_by (is_assigned script) (is_used script)) script.area 1 script.bindings (sym (bound-first script.bindings script.area) ∙ e)) (binding_of script script.area) e)
-    by-bound (Some b) e =
-        let f = file-of b.target (ap is_bound_to_number (sym e) ∙ h.number) in
-        let free = sym (ap (λ o. is_some o && is_assigned script script.area) e) ∙ h.assigned in
-        let i = found-input script script.area b f.0 e f.1 free (area-used script) in
-        (input_of b, ap (λ n. slice_get (inputs_of script) (unwrap_or n 0)) i.1 ∙ i.2)
-
-if-some : {A : Type 0} (o : Option A) (P : A → Type 0) → ((x : A) → o ≡ Some x → P x) → IfSome o P
-if-some None P h = tt
-if-some (Some x) P h = h x refl
-
-area-input : (script : Script) (lines : List Line) (program : Program) → HasLines script lines → IsProgramOf script lines program → IsInput program Grid program.area
-area-input script lines program h hp =
-    let i = area-there script lines h in
-    let there = ap (λ is. slice_get is program.area) hp.inputs ∙ ap (slice_get (inputs_of script)) hp.area ∙ i.1 in
-    record {
-      within = slice_get_within program.inputs program.area i.0 there;
-      role = if-some (slice_get program.inputs program.area) (λ x. x.role ≡ Grid) (λ x e. inputs-grids script program.area x (sym (ap (λ is. slice_get is program.area) hp.inputs) ∙ e));
-    }
 
 -- ---- the whole
 
@@ -217,72 +146,173 @@ filter-few p (b ∷ bs) = by-test (p b) (filter p bs) (length bs) (filter-few p 
 inputs-few : (script : Script) → length script.bindings ≤ 1000 → length (inputs_of script) ≤ 1001
 inputs-few script h =
     let used = filter-few (is_input_by (is_assigned script) (is_used script)) script.bindings in
-    let both = length-append (map (λ file. grid_input file Scalar) (area_files (binding_of script script.area) script.area)) (map input_of (used_inputs script)) in
+    let both = length-append (map (λ file. grid_input file Scalar) (area_files (binding_of script script.area) script.area)) (map (input_of script) (used_inputs script)) in
     let first = area-few (binding_of script script.area) in
-    let many = length-map (used_inputs script) input_of in
+    let many = length-map (used_inputs script) (input_of script) in
     omega (arith, used, both, first, many, h)
   where
     area-few : (o : Option Binding) → length (map (λ file. grid_input file Scalar) (area_files o script.area)) ≤ 1
     area-few None = omega arith
     area-few (Some b) = omega arith
 
-all-have : (inputs : List InputUse) (above lines : List Line) → LinesFit inputs above lines → AllHave lines
-all-have inputs above [] h = tt
-all-have inputs above (l ∷ ls) h = (h.0.operation, all-have inputs (above ++ l ∷ []) ls h.1)
+each-in : (section : Section) (ls : List Line) → Each (λ l. l.section ≡ section) ls → AreIn section ls
+each-in section [] h = tt
+each-in section (l ∷ ls) h = (h.0, each-in section ls h.1)
 
--- grids have the roles that they may have
-grids-suit : (inputs : List InputUse) → AreGrids inputs → Each (λ i. SuitsRole i.kind i.role) inputs
-grids-suit [] hg = tt
-grids-suit (i ∷ inputs) hg = (subst (SuitsRole i.kind) (sym (hg 0 i refl)) tt, grids-suit inputs (λ n j e. hg (suc n) j e))
+-- the settled statements of a script without a fault, in two sections
+module _ (script : Script) (lines : List Line) (program : Program) (made : IsWellMade script) (built : is_unbuilt script ≡ false) (meant : meaning script ≡ Ok lines) (few-initial : total_operations (lines_in Initial lines) ≤ 8192) (few-dynamic : total_operations (lines_in Dynamic lines) ≤ 8192) (h : IsProgramWritten script lines program) where
+  abbrev first : List Line
+  first = lines_in Initial lines
 
--- none of them is a stack
-no-stacks : (inputs : List InputUse) → AreGrids inputs → length (filter (λ (i : InputUse). is_stack_role i.role) inputs) ≡ 0
-no-stacks [] hg = refl
-no-stacks (i ∷ inputs) hg =
-    let rest = filter (λ (i : InputUse). is_stack_role i.role) inputs in
-    ap (λ b. length (if b then i ∷ rest else rest)) (ap is_stack_role (hg 0 i refl)) ∙ no-stacks inputs (λ n j e. hg (suc n) j e)
+  abbrev later : List Line
+  later = lines_in Dynamic lines
 
--- and no output is
-no-stack-outputs : (bound : Bound) (statement before : ℕ) (lines : List Line) → length (filter (λ (u : OutputUse). is_stack_grid u.kind) (outputs_from bound statement before lines)) ≡ 0
-no-stack-outputs bound statement before [] = refl
-no-stack-outputs bound statement before (l ∷ ls) = by-report l.report (outputs_from bound (statement + 1) (before + operations_of l.statement.value) ls) (no-stack-outputs bound (statement + 1) (before + operations_of l.statement.value) ls)
-  where
-    by-report : (b : Bool) (rest : List OutputUse) → length (filter (λ (u : OutputUse). is_stack_grid u.kind) rest) ≡ 0 →
-        length (filter (λ (u : OutputUse). is_stack_grid u.kind) ((if b then record { file = file_written bound l; kind = InitialGrid; value = Initial (before + operations_of l.statement.value - 1); cell_kind = l.kind; statement = statement } ∷ [] else []) ++ rest)) ≡ 0
-    by-report true rest h = h
-    by-report false rest h = h
+  abbrev frame : Frame
+  frame = script_frame script
 
--- the program of a script that a text gives is well formed
-pub formed-program : (script : Script) (lines : List Line) (program : Program) → IsWellMade script → is_unbuilt script ≡ false → meaning script ≡ Ok lines → total_operations lines ≤ 8192 → IsProgramOf script lines program → HaveForms (inputs_of script) program.initial lines → IsWellFormed program
-formed-program script lines program hm hu h hn hp hf =
-    let has = has-lines script lines h in
-    let named = lines-named script lines hm has.all in
-    let many = named.many in
-    let most = hm.statements in
-    let few : length lines ≤ 1000 = omega (arith, many, most) in
-    let fits = lines-fit script lines hu h in
-    let have = all-have (inputs_of script) [] lines fits in
-    let steps = hm.steps in
-    let entries = hm.entries in
-    let count = kept-count lines program.initial hf.kept in
-    let outs = outputs-few (binding_of script) 1 0 lines in
-    record {
-      files = all-each (λ i. IsTrue (is_file_word i.file)) program.inputs (subst (Each (λ i. is_file_word i.file ≡ true)) (sym hp.inputs) (input-files script hm));
-      roles = all-each (λ i. SuitsRole i.kind i.role) program.inputs (subst (Each (λ i. SuitsRole i.kind i.role)) (sym hp.inputs) (grids-suit (inputs_of script) (inputs-grids script)));
-      area = area-input script lines program has hp;
-      operations = operations-formed (binding_of script) lines program hp.dynamic hp.outputs have hf.kept (hf.forms program (record { more = []; inputs_are = hp.inputs; initial_is = sym (append-nil program.initial) }));
-      step_operations = subst (AreStepOperations program 0) (sym hp.dynamic) tt;
-      step_order = subst (AllPairs StandsBefore) (sym hp.dynamic) (λ i j d less below. absurd (omega arith));
-      order = all-pairs StandsBefore program.initial (operations-order program.initial lines hp.operations);
-      outputs = all-each (IsOutput program) program.outputs (subst (Each (IsOutput program)) (sym hp.outputs) (outputs-formed program (binding_of script) 1 0 lines [] program.initial refl refl hf.kept have (written-files script lines hm.bindings named.names) (omega (arith, few))));
-      reports = all-pairs (λ x y. x.statement < y.statement) program.outputs (subst (λ us. Pairs (λ x y. x.statement < y.statement) us) (sym hp.outputs) (outputs-order (binding_of script) 1 0 lines));
-      few_inputs = (let e = ap length hp.inputs in let k = inputs-few script entries in omega (arith, e, k));
-      few_operations = omega (arith, count, hn);
-      few_step_operations = (let e = ap length hp.dynamic in omega (arith, e));
-      few_step_statements = subst (All (λ (o : Operation). o.statement ≤ 1000)) (sym hp.dynamic) (λ k d below. absurd (omega arith));
-      few_stacks = (let e = ap (λ is. length (filter (λ (i : InputUse). is_stack_role i.role) is)) hp.inputs ∙ no-stacks (inputs_of script) (inputs-grids script) in omega (arith, e));
-      few_stack_outputs = (let e = ap (λ us. length (filter (λ (u : OutputUse). is_stack_grid u.kind) us)) hp.outputs ∙ no-stack-outputs (binding_of script) 1 0 lines in omega (arith, e));
-      few_statements = all-each (λ o. o.statement ≤ 1000) program.initial (each-weaken (λ o. o.statement ≤ length lines) (λ o. o.statement ≤ 1000) program.initial (λ o k. (let z = k in omega (arith, z, few))) (operations-below program.initial lines hp.operations));
-      few_outputs = (let e = ap length hp.outputs in omega (arith, e, outs, few));
-      few_steps = (let e = hp.steps in omega (arith, e, steps));
-    }
+  abbrev bound : Bound
+  bound = binding_of script
+
+  abbrev xs : List Operand
+  xs = h.both.initial.operands
+
+  abbrev ys : List Operand
+  ys = h.both.dynamic.operands
+
+  -- the program before its operations are kept
+  abbrev plain : Program
+  plain = record { inputs = inputs_of script; initial = h.written.initial; dynamic = h.written.dynamic; outputs = h.written.outputs; area = program.area; steps = program.steps }
+
+  abbrev same : IsKeptAs program plain
+  same = record {
+    inputs = h.inputs;
+    outputs = h.outputs ∙ h.keeps.outputs;
+    keep = h.keeps.keep;
+    initial = h.initial ∙ h.keeps.initial;
+    step_keep = h.keeps.step_keep;
+    dynamic = h.dynamic ∙ h.keeps.dynamic;
+  }
+
+  order : HaveOrder script lines
+  order = lines-order script lines meant
+
+  fit : LinesFit frame [] first × LinesFit frame first later
+  fit = sections-fit script frame lines order (lines-fit script lines built meant)
+
+  sound : (are_sound first ≡ true) × (are_sound later ≡ true)
+  sound = let e = sym (ap are_sound order.split ∙ list_all-append (λ l. is_sound l.statement.value) first later) ∙ lines-sound script lines built meant in (both-left (are_sound first) (are_sound later) e, both-right (are_sound first) (are_sound later) e)
+
+  in-first : AreIn Initial first
+  in-first = each-in Initial first (in-section Initial lines)
+
+  in-later : AreIn Dynamic later
+  in-later = each-in Dynamic later (in-section Dynamic lines)
+
+  -- what names had before, as the definition has it
+  none-is : h.both.none ≡ nothing_held
+  none-is = fun_ext h.both.none_is
+
+  before-is : h.both.before ≡ held_before (held_below Initial nothing_held first) later
+  before-is = fun_ext (λ name. h.both.before_is name ∙ ap (carried_or (last_number 0 later name)) (h.both.initial.held name ∙ ap (own_or Initial (last_number 0 first name)) (h.both.none_is name)))
+
+  values-first : HaveValues frame [] Initial nothing_held 1 h.written.initial first xs
+  values-first = subst (λ s. HaveValues frame [] Initial s 1 h.written.initial first xs) none-is (h.both.initial.values frame [] fit.0 in-first refl)
+
+  values-later : HaveValues frame first Dynamic (held_before (held_below Initial nothing_held first) later) (length first + 1) h.written.dynamic later ys
+  values-later = subst (λ s. HaveValues frame first Dynamic s (length first + 1) h.written.dynamic later ys) before-is (h.both.dynamic.values frame first fit.1 in-later refl)
+
+  -- ---- the program of the statements
+
+  outputs-are : h.written.outputs ≡ outputs_with bound 1 first xs ++ outputs_with bound (length first + 1) later ys
+  outputs-are = h.both.dynamic.outputs_in ∙ ap (λ us. us ++ outputs_with bound (length first + 1) later ys) h.both.initial.outputs_in
+
+  pub program-of : IsProgramOf script lines program
+  program-of = record {
+    inputs = h.inputs;
+    area = h.area;
+    operations = ap (map as_listed) same.initial ∙ listed-where same.keep 0 h.written.initial ∙ h.both.initial.listed_in;
+    step_operations = ap (map as_listed) same.dynamic ∙ listed-where same.step_keep 0 h.written.dynamic ∙ h.both.dynamic.listed_in;
+    outputs =
+        ap (map as_shown) (same.outputs ∙ outputs-are)
+        ∙ map-append as_shown (outputs_with bound 1 first xs) (outputs_with bound (length first + 1) later ys)
+        ∙ ap (λ us. us ++ map as_shown (outputs_with bound (length first + 1) later ys)) (shown-with bound 1 first xs h.both.initial.as_many)
+        ∙ ap (λ us. outputs_from bound 1 first ++ us) (shown-with bound (length first + 1) later ys h.both.dynamic.as_many)
+        ∙ (let e : length first + 1 ≡ 1 + length first = omega arith in ap (λ n. outputs_from bound 1 first ++ outputs_from bound n later) e)
+        ∙ sym (shown-both bound 1 first later)
+        ∙ ap (outputs_from bound 1) (sym order.split);
+    steps = h.steps;
+  }
+
+  -- ---- its values
+
+  forms-first : Each (λ u. is_output_of Initial u ≡ true) (outputs_with bound 1 first xs)
+  forms-first = forms-pass (is_output_of Initial) true bound 1 first xs (λ u l hk hf. ap is_initial_grid hk ∙ hf) (forms-of first (samples-fit frame [] first fit.0) (in-section Initial lines))
+    where
+      forms-of : (ls : List Line) → Each (SamplesFit frame) ls → Each (λ l. l.section ≡ Initial) ls → Each (λ l. is_initial_grid (form_by l.section l.sample) ≡ true) ls
+      forms-of [] f i = tt
+      forms-of (l ∷ ls) f i = (initial-form frame l f.0 i.0, forms-of ls f.1 i.1)
+
+  forms-later : Each (λ u. is_output_of Dynamic u ≡ true) (outputs_with bound (length first + 1) later ys)
+  forms-later = forms-pass (is_output_of Dynamic) false bound (length first + 1) later ys (λ u l hk hf. ap not (ap is_initial_grid hk ∙ hf)) (each-weaken (λ (l : Line). l.section ≡ Dynamic) (λ l. is_initial_grid (form_by l.section l.sample) ≡ false) later dynamic-form (in-section Dynamic lines))
+
+  plain-reports : (scenes : Scenes) (n : ℕ) → AreInOrder scenes → program_reports plain scenes n ≡ script_reports script lines scenes n
+  plain-reports scenes zero o = reports-agree frame first later fit.1 plain refl xs ys values-first values-later bound lines scenes 0 (after_steps lines scenes 0) (done_steps plain scenes 0) (outputs_with bound 1 first xs)
+      (ap (filter (is_output_of Initial)) outputs-are ∙ own-outputs Initial (outputs_with bound 1 first xs) (outputs_with bound (length first + 1) later ys) forms-first forms-later)
+      (λ done. sym (reported-written (scenes 0) done bound 1 first xs h.both.initial.as_many))
+      (all-agree frame first later fit.1 plain refl xs ys values-first values-later lines scenes 0 refl refl o)
+  plain-reports scenes (suc n) o = reports-agree frame first later fit.1 plain refl xs ys values-first values-later bound lines scenes (suc n) (after_steps lines scenes (suc n)) (done_steps plain scenes (suc n)) (outputs_with bound (length first + 1) later ys)
+      (ap (filter (is_output_of Dynamic)) outputs-are ∙ own-outputs Dynamic (outputs_with bound 1 first xs) (outputs_with bound (length first + 1) later ys) forms-first forms-later)
+      (λ done. sym (reported-written (scenes (suc n)) done bound (length first + 1) later ys h.both.dynamic.as_many))
+      (all-agree frame first later fit.1 plain refl xs ys values-first values-later lines scenes (suc n) refl refl o)
+
+  pub has-values : HasValues script lines program
+  has-values = record { same = λ scenes o n. reports-same program plain same scenes n ∙ plain-reports scenes n o }
+
+  -- ---- its form
+
+  formed-first : HaveForm plain Initial 0 h.written.initial × AreValuesOf plain Initial (length h.written.initial) first xs
+  formed-first = values-first.formed sound.0 plain (around-initial frame first later fit.1 plain refl xs ys values-first values-later) (begun-initial frame first later fit.1 plain refl xs ys values-first values-later)
+
+  formed-later : HaveForm plain Dynamic 0 h.written.dynamic × AreValuesOf plain Dynamic (length h.written.dynamic) later ys
+  formed-later = values-later.formed sound.1 plain (around-dynamic frame first later fit.1 plain refl xs ys values-first values-later) (begun-dynamic frame first later fit.1 plain refl xs ys values-first values-later)
+
+  -- the program is well formed
+  pub formed-program : IsWellFormed program
+  formed-program =
+      let p = program-of in
+      let has = has-lines script lines meant in
+      let named = lines-named script lines made has.all in
+      let many = named.many in
+      let most = made.statements in
+      let few : length lines ≤ 1000 = omega (arith, many, most) in
+      let parts = ap length order.split ∙ length-append first later in
+      let steps = made.steps in
+      let entries = made.entries in
+      let files = written-files script lines made.bindings named.names in
+      let split = subst (Each (λ l. is_file_word (file_written bound l) ≡ true)) order.split files in
+      let count = initial-count program plain same in
+      let step-count = dynamic-count program plain same in
+      let total = h.both.initial.count in
+      let step-total = h.both.dynamic.count in
+      record {
+        files = all-each (λ i. IsTrue (is_file_word i.file)) program.inputs (subst (Each (λ i. is_file_word i.file ≡ true)) (sym h.inputs) (input-files script made));
+        roles = all-each (λ i. SuitsRole i.kind i.role) program.inputs (subst (Each (λ i. SuitsRole i.kind i.role)) (sym h.inputs) (inputs-suit script lines built meant));
+        area = area-form program script h.inputs h.area (area-grid script lines has);
+        operations = operations-same program plain same h.keeps.kept formed-first.0;
+        step_operations = step-operations-same program plain same h.keeps.step_kept formed-later.0;
+        order = all-pairs StandsBefore program.initial (operations-order 1 program.initial first p.operations);
+        step_order = all-pairs StandsBefore program.dynamic (operations-order (length first + 1) program.dynamic later p.step_operations);
+        outputs = all-each (IsOutput program) program.outputs (subst (Each (IsOutput program)) (sym (same.outputs ∙ outputs-are)) (each-append (IsOutput program) (outputs_with bound 1 first xs) (outputs_with bound (length first + 1) later ys)
+            (outputs-there program plain same frame refl Initial bound 1 first xs in-first (samples-fit frame [] first fit.0) formed-first.1 (each-first (λ l. is_file_word (file_written bound l) ≡ true) first later split) (omega (arith, few, parts)))
+            (outputs-there program plain same frame refl Dynamic bound (length first + 1) later ys in-later (samples-fit frame first later fit.1) formed-later.1 (each-last (λ l. is_file_word (file_written bound l) ≡ true) first later split) (omega (arith, few, parts)))));
+        reports = all-pairs (λ x y. x.statement < y.statement) program.outputs (outputs-order bound 1 program.outputs lines p.outputs);
+        few_inputs = (let e = ap length h.inputs in let k = inputs-few script entries in omega (arith, e, k));
+        few_operations = omega (arith, count, total, few-initial);
+        few_step_operations = omega (arith, step-count, step-total, few-dynamic);
+        few_statements = all-each (λ o. o.statement ≤ 1000) program.initial (each-weaken (λ o. o.statement < 1 + length first) (λ o. o.statement ≤ 1000) program.initial (λ o k. (let z = k in omega (arith, z, few, parts))) (operations-below 1 program.initial first p.operations));
+        few_step_statements = all-each (λ o. o.statement ≤ 1000) program.dynamic (each-weaken (λ o. o.statement < length first + 1 + length later) (λ o. o.statement ≤ 1000) program.dynamic (λ o k. (let z = k in omega (arith, z, few, parts))) (operations-below (length first + 1) program.dynamic later p.step_operations));
+        few_outputs = (let k = outputs-few bound 1 program.outputs lines p.outputs in omega (arith, k, few));
+        few_stacks = subst (λ is. length (filter (λ (i : InputUse). is_stack_role i.role) is) ≤ 64) (sym h.inputs) (few-stacks-read script lines meant);
+        few_stack_outputs = few-stack-outputs script lines program.outputs meant p.outputs;
+        few_steps = (let e = h.steps in omega (arith, e, steps));
+      }

@@ -2,6 +2,7 @@
 use Rattle.std.proofs.Common.{◌≡◌, ℕ, suc, ◌+◌, Bool, true, false, not, ◌&&◌, ◌||◌, List, [], ◌∷◌, ◌++◌, map, filter, refl, sym, ap, ◌∙◌, if◌then◌else◌, arith}
 use Rattle.std.specs.Prelude.{Option, None, Some, option_map, slice_get}
 use Rattle.std.specs.List.{find, list_any}
+use Rattle.std.specs.Option.{is_some, unwrap_or}
 use Rattle.std.specs.Str.{bytes_eq}
 use Rattle.std.proofs.lemmas.Option.{slice_get-map}
 use Rattle.std.proofs.lemmas.Slice.Eq.{bytes_eq-Decides}
@@ -9,9 +10,11 @@ use Rattle.cell_values.specs.declared.kind.Kind.TheVariants.{Scalar}
 use Rattle.script_syntax.specs.declared.tree.Binding.{Binding}
 use Rattle.script_syntax.specs.declared.tree.Script.{Script}
 use Rattle.script_syntax.specs.declared.tree.Target.TheVariants as target
-use Rattle.script_types.specs.Lowered.{grid_input, input_of, inputs_of}
-use Rattle.script_types.specs.Names.{binding_at, binding_of, input_number, inputs_before, is_assigned, is_input_by, is_number_target, is_used, place_from, used_inputs}
-use Rattle.script_types.specs.Reports.{area_files}
+use Rattle.script_types.specs.declared.typed.UsedAs.{UsedAs}
+use Rattle.script_types.specs.declared.typed.UsedAs.TheVariants as used
+use Rattle.script_types.specs.Lowered.{grid_input, input_as_used, input_of, inputs_of}
+use Rattle.script_types.specs.Names.{binding_at, binding_of, input_number, inputs_before, is_assigned, is_input_by, is_number_target, is_used, place_from, role_of, script_uses, used_inputs}
+use Rattle.script_types.specs.Reports.{area_files, role_by}
 
 -- ---- the first binding of a name
 
@@ -80,9 +83,9 @@ place-among p name k (c ∷ cs) b h hp = place-step (bytes_eq name c.name) (p c)
 -- ---- its input
 
 -- the input of a binding at this place
-input-at : (bound : Option Binding) (area : List ℕ) (us : List Binding) (n : ℕ) (b : Binding) → slice_get us n ≡ Some b → slice_get (map (λ file. grid_input file Scalar) (area_files bound area) ++ map input_of us) (inputs_before bound + n) ≡ Some (input_of b)
-input-at None area us n b h = let e : 1 + n ≡ suc n = omega arith in ap (slice_get (grid_input area Scalar ∷ map input_of us)) e ∙ slice_get-map input_of us n ∙ ap (option_map input_of) h
-input-at (Some x) area us n b h = let e : 0 + n ≡ n = omega arith in ap (slice_get (map input_of us)) e ∙ slice_get-map input_of us n ∙ ap (option_map input_of) h
+input-at : (script : Script) (bound : Option Binding) (area : List ℕ) (us : List Binding) (n : ℕ) (b : Binding) → slice_get us n ≡ Some b → slice_get (map (λ file. grid_input file Scalar) (area_files bound area) ++ map (input_of script) us) (inputs_before bound + n) ≡ Some (input_of script b)
+input-at script None area us n b h = let e : 1 + n ≡ suc n = omega arith in ap (slice_get (grid_input area Scalar ∷ map (input_of script) us)) e ∙ slice_get-map (input_of script) us n ∙ ap (option_map (input_of script)) h
+input-at script (Some x) area us n b h = let e : 0 + n ≡ n = omega arith in ap (slice_get (map (input_of script) us)) e ∙ slice_get-map (input_of script) us n ∙ ap (option_map (input_of script)) h
 
 all-three : (a b c : Bool) → a ≡ false → b ≡ false → c ≡ true → (not a && not b && c) ≡ true
 all-three false false true ha hb hc = refl
@@ -93,14 +96,17 @@ all-three false false false ha hb hc = cc
 is-input : (script : Script) (name : List ℕ) (b : Binding) (file : List ℕ) → bytes_eq name b.name ≡ true → b.target ≡ target.File file → is_assigned script name ≡ false → is_used script name ≡ true → is_input_by (is_assigned script) (is_used script) b ≡ true
 is-input script name b file hn ht ha hu = let e : name ≡ b.name = (bytes_eq-Decides name b.name).0 hn in all-three (is_number_target b.target) (is_assigned script b.name) (is_used script b.name) (ap is_number_target ht) (ap (is_assigned script) (sym e) ∙ ha) (ap (is_used script) (sym e) ∙ hu)
 
--- a used name that is bound to a file and not assigned has the number of its input
-pub found-input : (script : Script) (name : List ℕ) (b : Binding) (file : List ℕ) → binding_of script name ≡ Some b → b.target ≡ target.File file → is_assigned script name ≡ false → is_used script name ≡ true → (n : ℕ) × (input_number script name ≡ Some n) × (slice_get (inputs_of script) n ≡ Some (input_of b))
+-- a used name that is bound to a file and not assigned has the number of its input, in the role of its first use
+pub found-input : (script : Script) (name : List ℕ) (b : Binding) (file : List ℕ) (role : UsedAs) → binding_of script name ≡ Some b → b.target ≡ target.File file → is_assigned script name ≡ false → role_of (script_uses script) name ≡ Some role → (n : ℕ) × (input_number script name ≡ Some n) × (slice_get (inputs_of script) n ≡ Some (input_as_used role b))
 unfolding HasPlace
-found-input script name b file hb ht ha hu =
+found-input script name b file role hb ht ha hr =
     let found = sym (bound-first script.bindings name) ∙ hb in
+    let named = found-passes (λ c. bytes_eq name c.name) script.bindings b found in
+    let same : name ≡ b.name = (bytes_eq-Decides name b.name).0 named in
     let bound = binding_of script script.area in
-    let i = place-among (is_input_by (is_assigned script) (is_used script)) name (inputs_before bound) script.bindings b found (is-input script name b file (found-passes (λ c. bytes_eq name c.name) script.bindings b found) ht ha hu) in
-    (inputs_before bound + i.0, i.1, input-at bound script.area (used_inputs script) i.0 b i.2)
+    let i = place-among (is_input_by (is_assigned script) (is_used script)) name (inputs_before bound) script.bindings b found (is-input script name b file named ht ha (ap is_some hr)) in
+    let its : role_by script b ≡ role = ap (λ n. unwrap_or (role_of (script_uses script) n) used.Grid) (sym same) ∙ ap (λ o. unwrap_or o used.Grid) hr in
+    (inputs_before bound + i.0, i.1, input-at script bound script.area (used_inputs script) i.0 b i.2 ∙ ap (λ r. Some (input_as_used r b)) its)
 
 -- the binding of a name has nothing that no binding has
 pub bound-none : (q : Binding → Bool) (script : Script) (name : List ℕ) (b : Binding) → list_any q script.bindings ≡ false → binding_of script name ≡ Some b → q b ≡ false

@@ -1,24 +1,35 @@
 -- The row that a word and a number of operands name, where nothing is unbuilt.
-use Rattle.std.proofs.Common.{◌≡◌, ℕ, Bool, true, false, not, ◌&&◌, ◌||◌, List, [], ◌∷◌, refl, subst, if◌then◌else◌}
-use Rattle.std.specs.Prelude.{All, Option, Some, ◌==◌, nat_le, nat_lt}
-use Rattle.std.specs.List.{find, list_all, list_any}
+use Rattle.std.proofs.Common.{◌≡◌, ◌∙◌, ℕ, Bool, true, false, not, ◌&&◌, ◌||◌, List, [], ◌∷◌, refl, sym, ap, subst, if◌then◌else◌}
+use Rattle.std.specs.Prelude.{All, Some, ◌==◌, nat_le, nat_lt}
+use Rattle.std.specs.List.{before_first, find, list_all}
+use Rattle.std.specs.Str.{bytes_eq}
 use Rattle.std.proofs.lemmas.List.Elements.{All-head, All-tail}
-use Rattle.cell_values.specs.declared.kind.Kind.TheVariants.{Ldd}
+use Rattle.std.proofs.lemmas.Slice.Eq.{bytes_eq-Decides}
+use Rattle.text_base.specs.Bytes.{space}
+use Rattle.cell_values.specs.declared.kind.Kind.{Kind}
+use Rattle.cell_values.specs.declared.kind.Kind.TheVariants.{Scalar, Ldd}
+use Rattle.map_meaning.specs.declared.op.Op.{Op}
+use Rattle.map_meaning.specs.declared.op.Op.TheVariants as op
 use Rattle.map_meaning.specs.declared.row.Row.{Row}
 use Rattle.map_meaning.specs.declared.row.Kinds.{Kinds}
 use Rattle.map_meaning.specs.declared.row.Ask.{Ask}
 use Rattle.map_meaning.specs.declared.row.Ask.TheVariants as ask
 use Rattle.map_meaning.specs.declared.row.Given.{Given}
 use Rattle.map_meaning.specs.declared.row.Given.TheVariants as given
+use Rattle.map_meaning.specs.declared.row.Meant.{Meant}
+use Rattle.map_meaning.specs.declared.row.Meant.TheVariants as meant
+use Rattle.map_meaning.specs.declared.row.Stands.{Stands}
+use Rattle.map_meaning.specs.declared.row.Stands.TheVariants as stands
 use Rattle.map_meaning.specs.declared.table.TheConstants.{MANY_OPERANDS}
 use Rattle.map_meaning.specs.Laws.{IsItsRow}
-use Rattle.map_meaning.specs.Table.{ask_at, first_alike, is_alike, is_kind, table_rows, takes}
+use Rattle.map_meaning.specs.Table.{ask_at, behind_file, first_alike, is_alike, is_kind, table_rows, takes}
 use Rattle.map_meaning.proofs.Callers.{each_its_row}
-use Rattle.script_types.specs.Table.{is_spelled, is_unbuilt_meant, row_for}
+use Rattle.script_types.specs.Table.{first_ask, is_spelled, is_unbuilt_meant, row_for, stands_of, word_row}
 use Rattle.script_types.specs.Unbuilt.{is_unbuilt_word}
 use Rattle.script_types.proofs.FitLemmas.{both-left, both-right}
+use Rattle.script_types.proofs.FoundInputs.{found-none, found-passes}
 
--- ---- what is read off the table, row by row
+-- ---- rows that ask maps
 
 -- the two tests say one
 abbrev pub same-test : Bool → Bool → Bool
@@ -65,46 +76,18 @@ takes-few row = if nat_lt row.most MANY_OPERANDS then nat_le row.most 4 else (ro
 abbrev pub has-alike : Row → Bool
 has-alike row = not (is_alike (ask_at row (first_alike row))) || nat_lt (first_alike row) row.least
 
--- what holds of each row that is built
+-- the row asks maps, as many as an operation has, and gives one
 abbrev pub is-plain : Row → Bool
 is-plain row = (asks-map row.first && (asks-map row.second && asks-map row.further)) && ((agrees-with row.first row && (agrees-with row.second row && agrees-with row.further row)) && (gives-map row row.gives && (takes-few row && has-alike row)))
 
--- the row is not built, or plain
-abbrev built-plain : Row → Bool
-built-plain row = is_unbuilt_meant row.meant || is-plain row
-
-all-plain : list_all built-plain table_rows ≡ true
-unfolding table_rows
-all-plain = refl
-
--- ---- the row that is found
-
--- what holds of a row that takes this many operands
-pub record IsFound (count : ℕ) (row : Row) : Type 0 where
+-- what holds of a row that asks maps and takes this many
+pub record IsPlain (count : ℕ) (row : Row) : Type 0 where
   pub takes : takes row count ≡ true
-  pub built : is_unbuilt_meant row.meant ≡ false
   pub asks : (i : ℕ) → asks-map (ask_at row i) ≡ true
   pub agrees : (i : ℕ) → agrees-with (ask_at row i) row ≡ true
   pub gives : gives-map row row.gives ≡ true
   pub few : takes-few row ≡ true
   pub alike : has-alike row ≡ true
-  pub its : IsItsRow row
-
--- neither holds
-pub neither-left : (a b : Bool) → (a || b) ≡ false → a ≡ false
-neither-left false b h = refl
-neither-left true b h = cc
-
-pub neither-right : (a b : Bool) → (a || b) ≡ false → b ≡ false
-neither-right false b h = h
-neither-right true b h = cc
-
-plain-of : (row : Row) → is_unbuilt_meant row.meant ≡ false → built-plain row ≡ true → is-plain row ≡ true
-plain-of row hb h = by-test (is_unbuilt_meant row.meant) (is-plain row) hb h
-  where
-    by-test : (b p : Bool) → b ≡ false → (b || p) ≡ true → p ≡ true
-    by-test false p hb h = h
-    by-test true p hb h = cc
 
 at-place : (p : Ask → Bool) (row : Row) (i : ℕ) → (p row.first && (p row.second && p row.further)) ≡ true → p (ask_at row i) ≡ true
 at-place p row i h = let more = both-right (p row.first) (p row.second && p row.further) h in
@@ -115,8 +98,9 @@ at-place p row i h = let more = both-right (p row.first) (p row.second && p row.
     by-place false true a b c = b
     by-place false false a b c = c
 
-found-plain : (count : ℕ) (row : Row) → takes row count ≡ true → is_unbuilt_meant row.meant ≡ false → IsItsRow row → is-plain row ≡ true → IsFound count row
-found-plain count row ht hb hi hp =
+-- such a row, where it takes this many
+pub plain-row : (count : ℕ) (row : Row) → takes row count ≡ true → is-plain row ≡ true → IsPlain count row
+plain-row count row ht hp =
     let first = asks-map row.first && (asks-map row.second && asks-map row.further) in
     let second = agrees-with row.first row && (agrees-with row.second row && agrees-with row.further row) in
     let third = gives-map row row.gives && (takes-few row && has-alike row) in
@@ -125,8 +109,6 @@ found-plain count row ht hb hi hp =
     let more = both-right (gives-map row row.gives) (takes-few row && has-alike row) last in
     record {
       takes = ht;
-      built = hb;
-      its = hi;
       asks = λ i. at-place asks-map row i (both-left first (second && third) hp);
       agrees = λ i. at-place (λ a. agrees-with a row) row i (both-left second third rest);
       gives = both-left (gives-map row row.gives) (takes-few row && has-alike row) last;
@@ -134,19 +116,206 @@ found-plain count row ht hb hi hp =
       alike = both-right (takes-few row) (has-alike row) more;
     }
 
-found-step : (s t : Bool) (r : Row) (rest : Option Row) (row : Row) (word : List ℕ) (count : ℕ) → is_spelled r word ≡ s → takes r count ≡ t → IsItsRow r → built-plain r ≡ true → (s && is_unbuilt_meant r.meant) ≡ false → (rest ≡ Some row → IsFound count row) → (if s && t then Some r else rest) ≡ Some row → IsFound count row
-found-step true true r rest row word count hs ht hi hp hu ih h = let e : r ≡ row = cc in subst (IsFound count) e (found-plain count r ht hu hi (plain-of r hu hp))
-found-step true false r rest row word count hs ht hi hp hu ih h = ih h
-found-step false t r rest row word count hs ht hi hp hu ih h = ih h
+-- ---- rows of tables, series, stacks, the step and samples
 
-found-in : (rows : List Row) (row : Row) (word : List ℕ) (count : ℕ) → All IsItsRow rows → list_all built-plain rows ≡ true → list_any (λ r. is_spelled r word && is_unbuilt_meant r.meant) rows ≡ false → find (λ r. is_spelled r word && takes r count) rows ≡ Some row → IsFound count row
-found-in [] row word count hi hp hu h = cc
-found-in (r ∷ rs) row word count hi hp hu h =
-    found-step (is_spelled r word) (takes r count) r (find (λ x. is_spelled x word && takes x count) rs) row word count refl refl
-    (All-head IsItsRow r rs hi) (both-left (built-plain r) (list_all built-plain rs) hp) (neither-left (is_spelled r word && is_unbuilt_meant r.meant) (list_any (λ x. is_spelled x word && is_unbuilt_meant x.meant) rs) hu)
-    (found-in rs row word count (All-tail IsItsRow r rs hi) (both-right (built-plain r) (list_all built-plain rs) hp) (neither-right (is_spelled r word && is_unbuilt_meant r.meant) (list_any (λ x. is_spelled x word && is_unbuilt_meant x.meant) rs) hu)) h
+-- the operation looks its results up in a table
+abbrev pub is-table-op : Op → Bool
+is-table-op op.LookupBoolean = true
+is-table-op op.LookupNominal = true
+is-table-op op.LookupOrdinal = true
+is-table-op op.LookupScalar = true
+is-table-op op.LookupDirectional = true
+is-table-op _ = false
 
--- the row of a call is one of the table, built and plain, and takes as many operands
-pub found-row : (word : List ℕ) (count : ℕ) (row : Row) → is_unbuilt_word word ≡ false → row_for word count ≡ Some row → IsFound count row
-unfolding is_unbuilt_word row_for
-found-row word count row hu h = found-in table_rows row word count each_its_row all-plain hu h
+-- the operation looks its results up in a series
+abbrev pub is-series-op : Op → Bool
+is-series-op op.TimeInputBoolean = true
+is-series-op op.TimeInputNominal = true
+is-series-op op.TimeInputOrdinal = true
+is-series-op op.TimeInputScalar = true
+is-series-op op.TimeInputDirectional = true
+is-series-op _ = false
+
+-- the kind is the one that is given, and no drain map's
+abbrev pub gives-kind : Given → Kind → Bool
+gives-kind (given.Always given) kind = is_kind kind given && not (is_kind Ldd kind)
+gives-kind _ kind = false
+
+-- the place asks a table or a series, which the operation looks its results up in, and whose kind is given
+abbrev pub asks-file : Ask → Given → Op → Bool
+asks-file (ask.Table kind) gives o = gives-kind gives kind && is-table-op o
+asks-file (ask.Series kind) gives o = gives-kind gives kind && is-series-op o
+asks-file _ gives o = false
+
+-- the row looks its results up: its first operand is a table or a series, and the others are maps
+abbrev pub is-look-up : Op → Row → Bool
+is-look-up o row = asks-file row.first row.gives o && ((nat_le 2 row.least && nat_le row.most 5) && is-plain (behind_file row))
+
+-- the place asks a map of ids
+abbrev pub asks-ids : Ask → Bool
+asks-ids (ask.One kinds) = not kinds.scalar && (not kinds.directional && not kinds.ldd)
+asks-ids _ = false
+
+-- the place asks a stack
+abbrev pub asks-stack : Ask → Bool
+asks-stack ask.Stack = true
+asks-stack _ = false
+
+-- a scalar is given
+abbrev pub gives-scalar : Given → Bool
+gives-scalar (given.Always kind) = is_kind kind Scalar
+gives-scalar _ = false
+
+-- the kind of the operand at this place is given
+abbrev pub gives-same : Given → ℕ → Bool
+gives-same (given.Same i) n = i == n
+gives-same _ n = false
+
+-- the places in the script are the same
+abbrev pub same-stands : Stands → Stands → Bool
+same-stands stands.Anywhere stands.Anywhere = true
+same-stands stands.Dynamic stands.Dynamic = true
+same-stands stands.Sample stands.Sample = true
+same-stands stands.Mask stands.Mask = true
+same-stands _ _ = false
+
+-- the row takes just so many operands
+abbrev pub takes-just : ℕ → Row → Bool
+takes-just n row = (row.least == n) && (row.most == n)
+
+-- what each row that is built is, by what it stands for
+abbrev pub is-built : Meant → Row → Bool
+is-built (meant.Op o) row = is-plain row || is-look-up o row
+is-built meant.Step row = same-stands stands.Dynamic row.stands && (gives-scalar row.gives && asks-map row.first)
+is-built meant.Stack row = same-stands stands.Dynamic row.stands && (asks-stack row.first && (takes-just 1 row && gives-same row.gives 0))
+is-built meant.Sample row = same-stands stands.Sample row.stands && (is-plain row && (asks-ids row.first && takes-just 2 row))
+is-built meant.Unbuilt row = true
+
+all-built : list_all (λ row. is-built row.meant row) table_rows ≡ true
+unfolding table_rows
+all-built = refl
+
+-- ---- rows that are written alike
+
+-- the place asks no table, no series and no stack
+abbrev pub asks-no-file : Ask → Bool
+asks-no-file (ask.Table k) = false
+asks-no-file (ask.Series k) = false
+asks-no-file ask.Stack = false
+asks-no-file _ = true
+
+-- both ask the same table, series or stack, or neither asks one
+abbrev pub same-file : Ask → Ask → Bool
+same-file (ask.Table j) (ask.Table k) = is_kind j k
+same-file (ask.Series j) (ask.Series k) = is_kind j k
+same-file ask.Stack ask.Stack = true
+same-file a b = asks-no-file a && asks-no-file b
+
+-- how a row is written
+abbrev pub spelling : Row → List ℕ
+spelling row = before_first (λ byte. byte == space) row.word
+
+-- rows that are written alike stand at the same places, and ask the same table, series or stack where they ask one
+abbrev pub are-alike : Row → Row → Bool
+are-alike row other = not (bytes_eq (spelling row) (spelling other)) || (same-file row.first other.first && same-stands row.stands other.stands)
+
+all-alike : list_all (λ row. list_all (are-alike row) table_rows) table_rows ≡ true
+unfolding table_rows
+all-alike = refl
+
+pub same_stands : (a b : Stands) → same-stands a b ≡ true → a ≡ b
+same_stands stands.Anywhere stands.Anywhere h = refl
+same_stands stands.Anywhere stands.Dynamic h = cc
+same_stands stands.Anywhere stands.Sample h = cc
+same_stands stands.Anywhere stands.Mask h = cc
+same_stands stands.Dynamic stands.Anywhere h = cc
+same_stands stands.Dynamic stands.Dynamic h = refl
+same_stands stands.Dynamic stands.Sample h = cc
+same_stands stands.Dynamic stands.Mask h = cc
+same_stands stands.Sample stands.Anywhere h = cc
+same_stands stands.Sample stands.Dynamic h = cc
+same_stands stands.Sample stands.Sample h = refl
+same_stands stands.Sample stands.Mask h = cc
+same_stands stands.Mask stands.Anywhere h = cc
+same_stands stands.Mask stands.Dynamic h = cc
+same_stands stands.Mask stands.Sample h = cc
+same_stands stands.Mask stands.Mask h = refl
+
+-- ---- the row that is found
+
+-- what holds of a row that a word and so many operands name
+pub record IsFound (word : List ℕ) (count : ℕ) (row : Row) : Type 0 where
+  pub takes : takes row count ≡ true
+  pub its : IsItsRow row
+  pub built : is_unbuilt_meant row.meant ≡ false
+  pub as_built : is-built row.meant row ≡ true
+  -- what the word's first row asks, and where the word may stand
+  pub first : same-file row.first (first_ask (word_row word)) ≡ true
+  pub stands : stands_of (word_row word) ≡ row.stands
+
+-- neither holds
+pub neither-left : (a b : Bool) → (a || b) ≡ false → a ≡ false
+neither-left false b h = refl
+neither-left true b h = cc
+
+pub neither-right : (a b : Bool) → (a || b) ≡ false → b ≡ false
+neither-right false b h = h
+neither-right true b h = cc
+
+-- what is found has what all have
+pub found-all : {A : Type 0} (p q : A → Bool) (xs : List A) (y : A) → list_all q xs ≡ true → find p xs ≡ Some y → q y ≡ true
+found-all p q [] y ha h = cc
+found-all p q (x ∷ xs) y ha h = by-test (p x) (both-left (q x) (list_all q xs) ha) (found-all p q xs y (both-right (q x) (list_all q xs) ha)) h
+  where
+    by-test : (t : Bool) → q x ≡ true → (find p xs ≡ Some y → q y ≡ true) → (if t then Some x else find p xs) ≡ Some y → q y ≡ true
+    by-test true hq ih g = let e : x ≡ y = cc in sym (ap q e) ∙ hq
+    by-test false hq ih g = ih g
+
+found-its : (p : Row → Bool) (rows : List Row) (row : Row) → All IsItsRow rows → find p rows ≡ Some row → IsItsRow row
+found-its p [] row ha h = cc
+found-its p (r ∷ rs) row ha h = by-test (p r) (found-its p rs row (All-tail IsItsRow r rs ha)) h
+  where
+    by-test : (t : Bool) → (find p rs ≡ Some row → IsItsRow row) → (if t then Some r else find p rs) ≡ Some row → IsItsRow row
+    by-test true ih g = let e : r ≡ row = cc in subst IsItsRow e (All-head IsItsRow r rs ha)
+    by-test false ih g = ih g
+
+-- what passes two tests passes the first, so something is found by it
+found-one : {A : Type 0} (p q : A → Bool) (xs : List A) (y : A) → find (λ x. p x && q x) xs ≡ Some y → (x : A) × (find p xs ≡ Some x)
+found-one p q [] y h = cc
+found-one {A = A} p q (x ∷ xs) y h = by-test (p x) (q x) (found-one p q xs y) h
+  where
+    by-test : (s t : Bool) → (find (λ z. p z && q z) xs ≡ Some y → (z : A) × (find p xs ≡ Some z)) → (if s && t then Some x else find (λ z. p z && q z) xs) ≡ Some y → (z : A) × ((if s then Some x else find p xs) ≡ Some z)
+    by-test true t ih g = (x, refl)
+    by-test false t ih g = ih g
+
+built-of : (s u : Bool) → s ≡ true → (s && u) ≡ false → u ≡ false
+built-of true u hs h = h
+built-of false u hs h = cc
+
+alike-of : (s t : Bool) → s ≡ true → (not s || t) ≡ true → t ≡ true
+alike-of true t hs h = h
+alike-of false t hs h = cc
+
+same-spelling : (row other : Row) (word : List ℕ) → is_spelled row word ≡ true → is_spelled other word ≡ true → bytes_eq (spelling row) (spelling other) ≡ true
+same-spelling row other word h g = (bytes_eq-Decides (spelling row) (spelling other)).1 ((bytes_eq-Decides (spelling row) word).0 h ∙ sym ((bytes_eq-Decides (spelling other) word).0 g))
+
+-- the row of a call is one of the table, built, and takes as many operands
+pub found-row : (word : List ℕ) (count : ℕ) (row : Row) → is_unbuilt_word word ≡ false → row_for word count ≡ Some row → IsFound word count row
+unfolding is_unbuilt_word row_for word_row
+found-row word count row hu h =
+    let asked = λ (r : Row). is_spelled r word && takes r count in
+    let passes = found-passes asked table_rows row h in
+    let spelled = both-left (is_spelled row word) (takes row count) passes in
+    let first = found-one (λ r. is_spelled r word) (λ r. takes r count) table_rows row h in
+    let other = first.0 in
+    let alike = alike-of (bytes_eq (spelling row) (spelling other)) (same-file row.first other.first && same-stands row.stands other.stands)
+    (same-spelling row other word spelled (found-passes (λ r. is_spelled r word) table_rows other first.1))
+    (found-all (λ r. is_spelled r word) (are-alike row) table_rows other (found-all asked (λ r. list_all (are-alike r) table_rows) table_rows row all-alike h) first.1) in
+    record {
+      takes = both-right (is_spelled row word) (takes row count) passes;
+      its = found-its asked table_rows row each_its_row h;
+      built = built-of (is_spelled row word) (is_unbuilt_meant row.meant) spelled (found-none asked (λ r. is_spelled r word && is_unbuilt_meant r.meant) table_rows row hu h);
+      as_built = found-all asked (λ r. is-built r.meant r) table_rows row all-built h;
+      first = ap (λ o. same-file row.first (first_ask o)) first.1 ∙ both-left (same-file row.first other.first) (same-stands row.stands other.stands) alike;
+      stands = ap stands_of first.1 ∙ sym (same_stands row.stands other.stands (both-right (same-file row.first other.first) (same-stands row.stands other.stands) alike));
+    }

@@ -1,12 +1,12 @@
 -- The order of operations and outputs of settled statements.
-use Rattle.std.proofs.Common.{◌≡◌, ◌<◌, ◌≤◌, ◌⊎◌, inl, inr, ℕ, suc, ◌+◌, Bool, true, false, List, [], ◌∷◌, ◌++◌, map, length, refl, sym, subst, if◌then◌else◌, arith}
+use Rattle.std.proofs.Common.{◌≡◌, ◌<◌, ◌≤◌, ◌⊎◌, inl, inr, ℕ, suc, ◌+◌, Bool, true, false, List, [], ◌∷◌, ◌++◌, map, length, refl, sym, ap, subst, ◌∙◌, if◌then◌else◌, arith}
+use Rattle.std.proofs.lemmas.List.{length-map}
 use Rattle.map_meaning.specs.declared.program.Operation.{Operation}
 use Rattle.map_meaning.specs.declared.program.OutputUse.{OutputUse}
 use Rattle.map_meaning.specs.Programs.{StandsBefore}
 use Rattle.script_types.specs.declared.typed.Line.{Line}
-use Rattle.script_types.specs.Lowered.{Listed, Unnumbered, as_listed, numbered_operations, operations_from, outputs_from, post_order}
+use Rattle.script_types.specs.Lowered.{Listed, Shown, Unnumbered, as_listed, as_shown, numbered_operations, operations_from, outputs_from, post_order}
 use Rattle.script_types.specs.Reports.{Bound}
-use Rattle.script_types.specs.Statements.{operations_of}
 use Rattle.script_types.proofs.Pairwise.{Each, Pairs, each-append, each-from_map, each-weaken, pairs-from_map}
 
 -- ---- operations
@@ -52,41 +52,47 @@ from-order statement (l ∷ ls) = numbered-order statement 1 (post_order l.state
     (from-order (statement + 1) ls)
 
 -- operations of statements stand in their order
-pub operations-order : (ops : List Operation) (lines : List Line) → map as_listed ops ≡ operations_from 1 lines → Pairs StandsBefore ops
+pub operations-order : (first : ℕ) (ops : List Operation) (lines : List Line) → map as_listed ops ≡ operations_from first lines → Pairs StandsBefore ops
 unfolding ListedBefore
-operations-order ops lines h = pairs-from_map as_listed ListedBefore ops (subst (Pairs ListedBefore) (sym h) (from-order 1 lines))
+operations-order first ops lines h = pairs-from_map as_listed ListedBefore ops (subst (Pairs ListedBefore) (sym h) (from-order first lines))
 
 -- and their statements are numbered up to the last
-pub operations-below : (ops : List Operation) (lines : List Line) → map as_listed ops ≡ operations_from 1 lines → Each (λ o. o.statement ≤ length lines) ops
+pub operations-below : (first : ℕ) (ops : List Operation) (lines : List Line) → map as_listed ops ≡ operations_from first lines → Each (λ o. o.statement < first + length lines) ops
 unfolding Within
-operations-below ops lines h = each-weaken (λ o. Within 1 (1 + length lines) (as_listed o)) (λ o. o.statement ≤ length lines) ops (λ o w. (let k = w.1 in omega (arith, k))) (each-from_map as_listed (Within 1 (1 + length lines)) ops (subst (Each (Within 1 (1 + length lines))) (sym h) (from-within 1 (1 + length lines) 1 lines (omega arith) (omega arith))))
+operations-below first ops lines h = each-weaken (λ o. Within first (first + length lines) (as_listed o)) (λ o. o.statement < first + length lines) ops (λ o w. w.1) (each-from_map as_listed (Within first (first + length lines)) ops (subst (Each (Within first (first + length lines))) (sym h) (from-within first (first + length lines) first lines (omega arith) (omega arith))))
 
 -- ---- outputs
 
-one-output : (P : OutputUse → Type 0) (report : Bool) (u : OutputUse) (rest : List OutputUse) → P u → Each P rest → Each P ((if report then u ∷ [] else []) ++ rest)
+one-output : (P : Shown → Type 0) (report : Bool) (u : Shown) (rest : List Shown) → P u → Each P rest → Each P ((if report then u ∷ [] else []) ++ rest)
 one-output P true u rest hu hr = (hu, hr)
 one-output P false u rest hu hr = hr
 
-outputs-from_on : (bound : Bound) (low statement below : ℕ) (lines : List Line) → low ≤ statement → Each (λ u. low ≤ u.statement) (outputs_from bound statement below lines)
-outputs-from_on bound low statement below [] h = tt
-outputs-from_on bound low statement below (l ∷ ls) h = one-output (λ u. low ≤ u.statement) l.report _ (outputs_from bound (statement + 1) (below + operations_of l.statement.value) ls) h (outputs-from_on bound low (statement + 1) (below + operations_of l.statement.value) ls (omega (arith, h)))
+shown-from_on : (bound : Bound) (low statement : ℕ) (lines : List Line) → low ≤ statement → Each (λ u. low ≤ u.statement) (outputs_from bound statement lines)
+shown-from_on bound low statement [] h = tt
+shown-from_on bound low statement (l ∷ ls) h = one-output (λ u. low ≤ u.statement) l.report _ (outputs_from bound (statement + 1) ls) h (shown-from_on bound low (statement + 1) ls (omega (arith, h)))
 
-one-before : (R : OutputUse → OutputUse → Type 0) (report : Bool) (u : OutputUse) (rest : List OutputUse) → Each (R u) rest → Pairs R rest → Pairs R ((if report then u ∷ [] else []) ++ rest)
+one-before : (R : Shown → Shown → Type 0) (report : Bool) (u : Shown) (rest : List Shown) → Each (R u) rest → Pairs R rest → Pairs R ((if report then u ∷ [] else []) ++ rest)
 one-before R true u rest he hp = (he, hp)
 one-before R false u rest he hp = hp
 
--- outputs stand in the order of their statements
-pub outputs-order : (bound : Bound) (statement below : ℕ) (lines : List Line) → Pairs (λ x y. x.statement < y.statement) (outputs_from bound statement below lines)
-outputs-order bound statement below [] = tt
-outputs-order bound statement below (l ∷ ls) =
-    let rest = outputs_from bound (statement + 1) (below + operations_of l.statement.value) ls in
-    one-before (λ x y. x.statement < y.statement) l.report _ rest (each-weaken (λ (u : OutputUse). statement + 1 ≤ u.statement) (λ u. statement < u.statement) rest (λ u k. (let m = k in omega (arith, m))) (outputs-from_on bound (statement + 1) (statement + 1) (below + operations_of l.statement.value) ls (omega arith))) (outputs-order bound (statement + 1) (below + operations_of l.statement.value) ls)
+shown-order : (bound : Bound) (statement : ℕ) (lines : List Line) → Pairs (λ x y. x.statement < y.statement) (outputs_from bound statement lines)
+shown-order bound statement [] = tt
+shown-order bound statement (l ∷ ls) =
+    let rest = outputs_from bound (statement + 1) ls in
+    one-before (λ x y. x.statement < y.statement) l.report _ rest (each-weaken (λ (u : Shown). statement + 1 ≤ u.statement) (λ u. statement < u.statement) rest (λ u k. (let m = k in omega (arith, m))) (shown-from_on bound (statement + 1) (statement + 1) ls (omega arith))) (shown-order bound (statement + 1) ls)
 
--- there are no more than statements
-pub outputs-few : (bound : Bound) (statement below : ℕ) (lines : List Line) → length (outputs_from bound statement below lines) ≤ length lines
-outputs-few bound statement below [] = omega arith
-outputs-few bound statement below (l ∷ ls) = at-most l.report _ (outputs_from bound (statement + 1) (below + operations_of l.statement.value) ls) (length ls) (outputs-few bound (statement + 1) (below + operations_of l.statement.value) ls)
+-- outputs stand in the order of their statements
+pub outputs-order : (bound : Bound) (statement : ℕ) (outputs : List OutputUse) (lines : List Line) → map as_shown outputs ≡ outputs_from bound statement lines → Pairs (λ x y. x.statement < y.statement) outputs
+outputs-order bound statement outputs lines h = pairs-from_map as_shown (λ x y. x.statement < y.statement) outputs (subst (Pairs (λ x y. x.statement < y.statement)) (sym h) (shown-order bound statement lines))
+
+shown-few : (bound : Bound) (statement : ℕ) (lines : List Line) → length (outputs_from bound statement lines) ≤ length lines
+shown-few bound statement [] = omega arith
+shown-few bound statement (l ∷ ls) = at-most l.report _ (outputs_from bound (statement + 1) ls) (length ls) (shown-few bound (statement + 1) ls)
   where
-    at-most : (report : Bool) (u : OutputUse) (rest : List OutputUse) (n : ℕ) → length rest ≤ n → length ((if report then u ∷ [] else []) ++ rest) ≤ suc n
+    at-most : (report : Bool) (u : Shown) (rest : List Shown) (n : ℕ) → length rest ≤ n → length ((if report then u ∷ [] else []) ++ rest) ≤ suc n
     at-most true u rest n h = omega (arith, h)
     at-most false u rest n h = omega (arith, h)
+
+-- there are no more than statements
+pub outputs-few : (bound : Bound) (statement : ℕ) (outputs : List OutputUse) (lines : List Line) → map as_shown outputs ≡ outputs_from bound statement lines → length outputs ≤ length lines
+outputs-few bound statement outputs lines h = let e = sym (length-map outputs as_shown) ∙ ap length h in let k = shown-few bound statement lines in omega (arith, e, k)

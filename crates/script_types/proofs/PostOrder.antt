@@ -1,42 +1,39 @@
 -- The operations of an expression in post-order, one node at a time, and their numbers.
 use Rattle.std.proofs.Common.{◌≡◌, ◌+◌, ◌-◌, ◌<◌, ◌≤◌, ℕ, zero, suc, List, [], ◌∷◌, ◌++◌, map, length, drop, refl, sym, ◌∙◌, ap, append_assoc, append-nil, arith, length-append}
+use Rattle.std.specs.Prelude.{Some, option_map}
 use Rattle.std.proofs.lemmas.List.{length-map}
 use Rattle.cell_values.specs.declared.kind.Kind.{Kind}
-use Rattle.cell_values.specs.declared.cell.Cell.{Cell}
 use Rattle.map_meaning.specs.declared.op.Op.{Op}
 use Rattle.map_meaning.specs.declared.program.Operation.{Operation}
 use Rattle.map_meaning.specs.declared.tree.Tree.{Tree}
 use Rattle.map_meaning.specs.declared.tree.Tree.TheVariants as tree
-use Rattle.map_meaning.specs.declared.tree.Tree.TheVariants.{rolls-Call, rolls-Number, rolls-Input, rolls-Name}
+use Rattle.map_meaning.specs.declared.tree.Tree.TheVariants.{rolls-Input, rolls-Name, rolls-Number, rolls-Stack, rolls-Time}
 use Rattle.map_meaning.specs.declared.tree.Tree.TheFolds.{fold-roll-Tree}
 use Rattle.map_meaning.specs.declared.tree.Tree.TheOpen.{Tree-F}
-use Rattle.map_meaning.specs.Trees.{meaning_of, operations_in}
+use Rattle.map_meaning.specs.Trees.{TreeMeaning, meaning_of, operations_in}
+use Rattle.map_meaning.specs.Programs.{operation_kind}
+use Rattle.map_meaning.specs.declared.program.Operand.{Operand}
+use Rattle.map_meaning.proofs.Callers.{meaning_of-Input, meaning_of-Name, meaning_of-Number, meaning_of-Stack, meaning_of-Time}
 use Rattle.script_types.specs.Names.{joined_lists}
 use Rattle.script_types.specs.Statements.{operations_of}
 use Rattle.script_types.specs.Lowered.{Listed, Unnumbered, as_listed, numbered_operations, post_order, post_order_level}
-use Rattle.script_types.specs.inside.Answers.{IsOperationOn, ListsTree}
+use Rattle.script_types.specs.inside.Nodes.{IsCall, IsLeaf}
+use Rattle.script_types.specs.inside.Sections.{Holder}
+use Rattle.script_types.specs.inside.Written.{IsOperationOn, ListsTree}
 use Rattle.script_types.specs.declared.emit.At.{At}
-use Rattle.script_types.proofs.CountLemmas.{count-call}
+use Rattle.script_types.proofs.EmitLemmas.{get-seam}
+use Rattle.script_types.proofs.NodeLemmas.{call-count, call-kind, call-post}
 
--- a call
-pub post-call : (k : Kind) (o : Op) (args : List Tree) → post_order (tree.Call k o args) ≡ joined_lists (map post_order args) ++ record { op = o; kind = k } ∷ []
+-- what is no operation has none, and lists none
+pub leaf-lists : (holder : Holder) (t : Tree) (x : Operand) → IsLeaf holder t x → (operations_of t ≡ 0) × (post_order t ≡ [])
 unfolding post_order
-post-call k o args = ap post_order (sym (rolls-Call k o args)) ∙ fold-roll-Tree (List Unnumbered) post_order_level (Tree-F.Call k o args)
-
--- a number
-pub post-number : (k : Kind) (c : Cell) → post_order (tree.Number k c) ≡ []
-unfolding post_order
-post-number k c = ap post_order (sym (rolls-Number k c)) ∙ fold-roll-Tree (List Unnumbered) post_order_level (Tree-F.Number k c)
-
--- an input
-pub post-input : (k : Kind) (n : ℕ) → post_order (tree.Input k n) ≡ []
-unfolding post_order
-post-input k n = ap post_order (sym (rolls-Input k n)) ∙ fold-roll-Tree (List Unnumbered) post_order_level (Tree-F.Input k n)
-
--- a name
-pub post-name : (k : Kind) (name : List ℕ) → post_order (tree.Name k name) ≡ []
-unfolding post_order
-post-name k name = ap post_order (sym (rolls-Name k name)) ∙ fold-roll-Tree (List Unnumbered) post_order_level (Tree-F.Name k name)
+leaf-lists holder (tree.Number k c) x h = (ap (λ (m : TreeMeaning). m.operations) (meaning_of-Number k c), ap post_order (sym (rolls-Number k c)) ∙ fold-roll-Tree (List Unnumbered) post_order_level (Tree-F.Number k c))
+leaf-lists holder tree.Time x h = (ap (λ (m : TreeMeaning). m.operations) meaning_of-Time, ap post_order (sym rolls-Time) ∙ fold-roll-Tree (List Unnumbered) post_order_level Tree-F.Time)
+leaf-lists holder (tree.Input k n) x h = (ap (λ (m : TreeMeaning). m.operations) (meaning_of-Input k n), ap post_order (sym (rolls-Input k n)) ∙ fold-roll-Tree (List Unnumbered) post_order_level (Tree-F.Input k n))
+leaf-lists holder (tree.Stack k n) x h = (ap (λ (m : TreeMeaning). m.operations) (meaning_of-Stack k n), ap post_order (sym (rolls-Stack k n)) ∙ fold-roll-Tree (List Unnumbered) post_order_level (Tree-F.Stack k n))
+leaf-lists holder (tree.Name k name) x h = (ap (λ (m : TreeMeaning). m.operations) (meaning_of-Name k name), ap post_order (sym (rolls-Name k name)) ∙ fold-roll-Tree (List Unnumbered) post_order_level (Tree-F.Name k name))
+leaf-lists holder (tree.Call' kind op shape operands) x h = absurd h
+leaf-lists holder (tree.LookUp' kind op file shape operands) x h = absurd h
 
 -- the numbers of operations and of others behind them
 pub numbered-append : (statement n : ℕ) (us vs : List Unnumbered) → numbered_operations statement n (us ++ vs) ≡ numbered_operations statement n us ++ numbered_operations statement (n + length us) vs
@@ -63,19 +60,20 @@ listed-count old new statement first t h =
 -- ---- leaves
 
 -- a leaf adds nothing
-pub lists-leaf : (old : List Operation) (statement first : ℕ) (t : Tree) → operations_of t ≡ 0 → post_order t ≡ [] → ListsTree old old statement first t
-lists-leaf old statement first t hc hp = record {
+pub lists-leaf : (old : List Operation) (statement first : ℕ) (t : Tree) → (operations_of t ≡ 0) × (post_order t ≡ []) → ListsTree old old statement first t
+lists-leaf old statement first t h = let hc = h.0 in record {
   count = omega (arith, hc);
-  listed = sym (ap (λ us. map as_listed old ++ numbered_operations statement (length old - first + 1) us) hp ∙ append-nil (map as_listed old));
+  listed = sym (ap (λ us. map as_listed old ++ numbered_operations statement (length old - first + 1) us) h.1 ∙ append-nil (map as_listed old));
+  last = λ some. absurd (omega (arith, some, hc));
 }
 
 -- ---- calls
 
 -- there is room for the next operand
-pub room-next : (t : Tree) (k : Kind) (o : Op) (args items : List Tree) (x : Tree) (rest : List Tree) (old now : ℕ) → t ≡ tree.Call k o args → items ≡ args → now + operations_in (map meaning_of (x ∷ rest)) ≡ old + operations_in (map meaning_of items) → old + operations_of t ≤ 8192 → now + operations_of x ≤ 8192
-room-next t k o args items x rest old now ht hi hs hr =
-    let e : operations_of t ≡ operations_in (map meaning_of args) + 1 = ap operations_of ht ∙ count-call k o args in
-    let f : now + (operations_of x + operations_in (map meaning_of rest)) ≡ old + operations_in (map meaning_of args) = hs ∙ ap (λ xs. old + operations_in (map meaning_of xs)) hi in
+pub room-next : (t : Tree) (k : Kind) (o : Op) (file : ℕ) (args : List Tree) (x : Tree) (rest : List Tree) (old now : ℕ) → IsCall t k o file args → now + operations_in (map meaning_of (x ∷ rest)) ≡ old + operations_in (map meaning_of args) → old + operations_of t ≤ 8192 → now + operations_of x ≤ 8192
+room-next t k o file args x rest old now call hs hr =
+    let e = call-count t k o file args call in
+    let f : now + (operations_of x + operations_in (map meaning_of rest)) ≡ old + operations_in (map meaning_of args) = hs in
     omega (arith, e, f, hr)
 
 -- those of some expressions, and of others before them
@@ -86,19 +84,18 @@ in-drop (x ∷ xs) zero = omega arith
 in-drop (x ∷ xs) (suc i) = let e = in-drop xs i in omega (arith, e)
 
 -- an operand has fewer operations than the call
-pub operand-smaller : (t : Tree) (k : Kind) (o : Op) (args items : List Tree) (x : Tree) (at : ℕ) → t ≡ tree.Call k o args → items ≡ args → drop at items ≡ x ∷ drop (at + 1) items → operations_of x < operations_of t
-operand-smaller t k o args items x at ht hi hd =
-    let e : operations_of t ≡ operations_in (map meaning_of args) + 1 = ap operations_of ht ∙ count-call k o args in
-    let f : operations_in (map meaning_of items) ≡ operations_in (map meaning_of args) = ap (λ xs. operations_in (map meaning_of xs)) hi in
-    let g = in-drop items at in
-    let h : operations_in (map meaning_of (drop at items)) ≡ operations_of x + operations_in (map meaning_of (drop (at + 1) items)) = ap (λ xs. operations_in (map meaning_of xs)) hd in
-    omega (arith, e, f, g, h)
+pub operand-smaller : (t : Tree) (k : Kind) (o : Op) (file : ℕ) (args : List Tree) (x : Tree) (at : ℕ) → IsCall t k o file args → drop at args ≡ x ∷ drop (at + 1) args → operations_of x < operations_of t
+operand-smaller t k o file args x at call hd =
+    let e = call-count t k o file args call in
+    let g = in-drop args at in
+    let h : operations_in (map meaning_of (drop at args)) ≡ operations_of x + operations_in (map meaning_of (drop (at + 1) args)) = ap (λ xs. operations_in (map meaning_of xs)) hd in
+    omega (arith, e, g, h)
 
 -- there is room for the operation itself
-pub room-end : (t : Tree) (k : Kind) (o : Op) (args items : List Tree) (old now : ℕ) → t ≡ tree.Call k o args → items ≡ args → now + operations_in (map meaning_of []) ≡ old + operations_in (map meaning_of items) → old + operations_of t ≤ 8192 → now < 8192
-room-end t k o args items old now ht hi hs hr =
-    let e : operations_of t ≡ operations_in (map meaning_of args) + 1 = ap operations_of ht ∙ count-call k o args in
-    let f : now + 0 ≡ old + operations_in (map meaning_of args) = hs ∙ ap (λ xs. old + operations_in (map meaning_of xs)) hi in
+pub room-end : (t : Tree) (k : Kind) (o : Op) (file : ℕ) (args : List Tree) (old now : ℕ) → IsCall t k o file args → now + operations_in (map meaning_of []) ≡ old + operations_in (map meaning_of args) → old + operations_of t ≤ 8192 → now < 8192
+room-end t k o file args old now call hs hr =
+    let e = call-count t k o file args call in
+    let f : now + 0 ≡ old + operations_in (map meaning_of args) = hs in
     omega (arith, e, f, hr)
 
 -- the operations of the next operand stand before those of the others
@@ -111,13 +108,13 @@ list-next old new statement first x rest hf h =
     ap (λ xs. xs ++ numbered_operations statement (length new - first + 1) rest) h.listed ∙ append_assoc (map as_listed old) (numbered_operations statement n (post_order x)) (numbered_operations statement (length new - first + 1) rest) ∙ ap (λ m. map as_listed old ++ (numbered_operations statement n (post_order x) ++ numbered_operations statement m rest)) e ∙ ap (λ xs. map as_listed old ++ xs) (sym (numbered-append statement n (post_order x) rest))
 
 -- the operation itself stands behind those of its operands
-pub lists-call : (old now : List Operation) (at : At) (t : Tree) (k : Kind) (o : Op) (args items : List Tree) (p : Operation) → t ≡ tree.Call k o args → items ≡ args → at.first ≤ length old → length now + operations_in (map meaning_of []) ≡ length old + operations_in (map meaning_of items) → map as_listed now ++ [] ≡ map as_listed old ++ numbered_operations at.statement (length old - at.first + 1) (joined_lists (map post_order items)) → IsOperationOn p o k at (length now) → ListsTree old (now ++ p ∷ []) at.statement at.first t
-lists-call old now at t k o args items p ht hi hf hc hl hp =
+pub lists-call : (old now : List Operation) (at : At) (t : Tree) (k : Kind) (o : Op) (file : ℕ) (args : List Tree) (p : Operation) → IsCall t k o file args → at.first ≤ length old → length now + operations_in (map meaning_of []) ≡ length old + operations_in (map meaning_of args) → map as_listed now ++ [] ≡ map as_listed old ++ numbered_operations at.statement (length old - at.first + 1) (joined_lists (map post_order args)) → IsOperationOn p o k at (length now) → ListsTree old (now ++ p ∷ []) at.statement at.first t
+lists-call old now at t k o file args p call hf hc hl hp =
     let n = length old - at.first + 1 in
     let us = joined_lists (map post_order args) in
-    let e : operations_of t ≡ operations_in (map meaning_of args) + 1 = ap operations_of ht ∙ count-call k o args in
-    let f : length now + 0 ≡ length old + operations_in (map meaning_of args) = hc ∙ ap (λ xs. length old + operations_in (map meaning_of xs)) hi in
-    let l : map as_listed now ≡ map as_listed old ++ numbered_operations at.statement n us = sym (append-nil (map as_listed now)) ∙ hl ∙ ap (λ xs. map as_listed old ++ numbered_operations at.statement n (joined_lists (map post_order xs))) hi in
+    let e = call-count t k o file args call in
+    let f : length now + 0 ≡ length old + operations_in (map meaning_of args) = hc in
+    let l : map as_listed now ≡ map as_listed old ++ numbered_operations at.statement n us = sym (append-nil (map as_listed now)) ∙ hl in
     let a = parts old now (numbered_operations at.statement n us) l in
     let b = length-numbered at.statement n us in
     let q : p.number ≡ n + length us = hp.number ∙ (let z : length now - at.first + 1 ≡ n + length us = omega (arith, a, b, hf) in z) in
@@ -125,7 +122,8 @@ lists-call old now at t k o args items p ht hi hf hc hl hp =
     let g : length (now ++ p ∷ []) ≡ length now + 1 = length-append now (p ∷ []) in
     record {
       count = omega (arith, e, f, g);
-      listed = map-push now p ∙ ap (λ xs. xs ++ as_listed p ∷ []) l ∙ append_assoc (map as_listed old) (numbered_operations at.statement n us) (as_listed p ∷ []) ∙ ap (λ x. map as_listed old ++ (numbered_operations at.statement n us ++ x ∷ [])) own ∙ ap (λ xs. map as_listed old ++ xs) (sym (numbered-append at.statement n us (record { op = o; kind = k } ∷ []))) ∙ ap (λ xs. map as_listed old ++ numbered_operations at.statement n xs) (sym (ap post_order ht ∙ post-call k o args));
+      listed = map-push now p ∙ ap (λ xs. xs ++ as_listed p ∷ []) l ∙ append_assoc (map as_listed old) (numbered_operations at.statement n us) (as_listed p ∷ []) ∙ ap (λ x. map as_listed old ++ (numbered_operations at.statement n us ++ x ∷ [])) own ∙ ap (λ xs. map as_listed old ++ xs) (sym (numbered-append at.statement n us (record { op = o; kind = k } ∷ []))) ∙ ap (λ xs. map as_listed old ++ numbered_operations at.statement n xs) (sym (call-post t k o file args call));
+      last = λ some. let z : length (now ++ p ∷ []) - 1 ≡ length now = omega (arith, g) in ap (operation_kind (now ++ p ∷ [])) z ∙ ap (option_map (λ (w : Operation). w.kind)) (get-seam now p []) ∙ ap Some (hp.kind_is ∙ sym (call-kind t k o file args call));
     }
   where
     four : {o1 o2 : Op} {k1 k2 : Kind} {s1 s2 n1 n2 : ℕ} → o1 ≡ o2 → k1 ≡ k2 → s1 ≡ s2 → n1 ≡ n2 → let a : Listed = record { op = o1; kind = k1; statement = s1; number = n1 } in let b : Listed = record { op = o2; kind = k2; statement = s2; number = n2 } in a ≡ b

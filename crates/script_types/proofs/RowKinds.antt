@@ -1,24 +1,24 @@
 -- The kinds that a plain row gives and allows, where its operands agree in a kind.
-use Rattle.std.proofs.Common.{◌≡◌, ◌<◌, ℕ, ◌+◌, Bool, true, false, not, ◌&&◌, ◌||◌, List, [], ◌∷◌, length, refl, sym, ap, subst, ◌∙◌, if◌then◌else◌, arith}
+use Rattle.std.proofs.Common.{◌≡◌, ◌<◌, ℕ, zero, suc, ◌+◌, ◌-◌, Bool, true, false, not, ◌&&◌, ◌||◌, List, [], ◌∷◌, length, refl, sym, ap, subst, ◌∙◌, if◌then◌else◌, arith}
 use Rattle.std.specs.Prelude.{◌==◌, nat_le, nat_lt}
 use Rattle.cell_values.specs.declared.kind.Kind.{Kind}
 use Rattle.cell_values.specs.declared.kind.Kind.TheVariants.{Boolean, Nominal, Ordinal, Scalar, Directional, Ldd}
+use Rattle.map_meaning.specs.declared.op.Op.{Op}
 use Rattle.map_meaning.specs.declared.row.Row.{Row}
 use Rattle.map_meaning.specs.declared.row.Kinds.{Kinds}
 use Rattle.map_meaning.specs.declared.row.Ask.{Ask}
 use Rattle.map_meaning.specs.declared.row.Ask.TheVariants as ask
 use Rattle.map_meaning.specs.declared.row.Given.{Given}
 use Rattle.map_meaning.specs.declared.row.Given.TheVariants as given
-use Rattle.map_meaning.specs.declared.row.Meant.{Meant}
 use Rattle.map_meaning.specs.declared.row.Meant.TheVariants as meant
 use Rattle.map_meaning.specs.declared.table.TheConstants.{MANY_OPERANDS}
+use Rattle.map_meaning.specs.Laws.{IsItsRow}
 use Rattle.map_meaning.specs.Rules.{kind_at}
-use Rattle.map_meaning.specs.Table.{allows, ask_at, common_kind, first_alike, given_kind, has_count, has_kind, is_alike, is_kind, row_of, takes}
+use Rattle.map_meaning.specs.Table.{allows, ask_at, behind_file, common_kind, first_alike, given_kind, has_count, has_kind, is_alike, is_kind, row_of, takes}
 use Rattle.map_meaning.proofs.Callers.{same_kind}
-use Rattle.script_types.specs.Table.{is_unbuilt_meant, op_of}
 use Rattle.script_types.specs.inside.Sound.{are_allowed, has_kinds}
 use Rattle.script_types.proofs.FitLemmas.{both-left, both-right}
-use Rattle.script_types.proofs.FoundRows.{IsFound, agrees-with, alike-in, gives-map, has-alike, is-common, same-kinds, same-test, takes-few}
+use Rattle.script_types.proofs.FoundRows.{IsPlain, agrees-with, alike-in, gives-map, has-alike, is-common, same-kinds, same-test, takes-few}
 use Rattle.script_types.proofs.SoundLemmas.{allowed-at}
 
 -- a kind is itself
@@ -37,16 +37,9 @@ both-are false b ha hb = cc
 
 -- ---- the operation of a row
 
--- the row of the operation that a built row stands for is that row
-pub its-row : (count : ℕ) (row : Row) → IsFound count row → row_of (op_of row.meant) ≡ row
-its-row count row h = by-meant row.meant refl h.built
-  where
-    by-meant : (m : Meant) → row.meant ≡ m → is_unbuilt_meant m ≡ false → row_of (op_of m) ≡ row
-    by-meant (meant.Op o) e hb = h.its o e
-    by-meant meant.Step e hb = cc
-    by-meant meant.Stack e hb = cc
-    by-meant meant.Sample e hb = cc
-    by-meant meant.Unbuilt e hb = cc
+-- the row of the operation that a row of the table stands for is that row
+pub its-row : (row : Row) (o : Op) → IsItsRow row → row.meant ≡ meant.Op o → row_of o ≡ row
+its-row row o h e = h o e
 
 -- ---- where operands agree
 
@@ -128,6 +121,39 @@ allowed-alike (ask.Series j) agreed k ha h = cc
 allowed-alike ask.Stack agreed k ha h = cc
 allowed-alike ask.Length agreed k ha h = cc
 
+-- ---- behind a table or a series
+
+-- what the places behind the first operand are asked
+pub ask-behind : (row : Row) (i : ℕ) → ask_at row (i + 1) ≡ ask_at (behind_file row) i
+ask-behind row zero = refl
+ask-behind row (suc zero) = refl
+ask-behind row (suc (suc i)) =
+    let a : (suc (suc i) + 1 == 0) ≡ false = no-equal (suc (suc i) + 1) 0 (λ e. omega (arith, e)) in
+    let b : (suc (suc i) + 1 == 1) ≡ false = no-equal (suc (suc i) + 1) 1 (λ e. omega (arith, e)) in
+    let c : (suc (suc i) == 0) ≡ false = no-equal (suc (suc i)) 0 (λ e. omega (arith, e)) in
+    let d : (suc (suc i) == 1) ≡ false = no-equal (suc (suc i)) 1 (λ e. omega (arith, e)) in
+    by-tests (suc (suc i) + 1 == 0) (suc (suc i) + 1 == 1) (suc (suc i) == 0) (suc (suc i) == 1) a b c d
+  where
+    no-equal : (m n : ℕ) → (m ≡ n → ⊥) → (m == n) ≡ false
+    no-equal m n h = grind (arith, h)
+
+    by-tests : (p q s t : Bool) → p ≡ false → q ≡ false → s ≡ false → t ≡ false → (if p then row.first else if q then row.second else row.further) ≡ (if s then row.second else if t then row.further else row.further)
+    by-tests false false false false a b c d = refl
+    by-tests true q s t a b c d = cc
+    by-tests false true s t a b c d = cc
+    by-tests false false true t a b c d = cc
+    by-tests false false false true a b c d = cc
+
+-- a row that looks its results up takes one operand more than what it asks behind the table or the series
+pub takes-behind : (row : Row) (n : ℕ) → nat_le 2 row.least ≡ true → takes row (suc n) ≡ true → takes (behind_file row) n ≡ true
+takes-behind row n hl h = by-numbers row.least row.most n hl h
+  where
+    by-numbers : (least most n : ℕ) → nat_le 2 least ≡ true → (nat_le least (suc n) && nat_le (suc n) most) ≡ true → (nat_le (least - 1) n && nat_le n (most - 1)) ≡ true
+    by-numbers least most n g k =
+        let a = both-left (nat_le least (suc n)) (nat_le (suc n) most) k in
+        let b = both-right (nat_le least (suc n)) (nat_le (suc n) most) k in
+        both-are (nat_le (least - 1) n) (nat_le n (most - 1)) (grind (arith, a)) (grind (arith, b))
+
 -- ---- the common kind
 
 -- no place asks to agree
@@ -178,7 +204,7 @@ least-below row n ha h ht = by-test (is_alike (ask_at row (first_alike row))) (n
     by-test false q e hp g = cc
 
 -- the test of a row, where its operands' kinds are allowed with what they agree in
-pub row-has-kinds : (row : Row) (agreed : Kind) (ks : List Kind) → IsFound (length ks) row → nat_lt row.most MANY_OPERANDS ≡ true → are_allowed row agreed 0 ks ≡ true → has_kinds row ks (given_kind row.gives agreed ks) ≡ true
+pub row-has-kinds : (row : Row) (agreed : Kind) (ks : List Kind) → IsPlain (length ks) row → nat_lt row.most MANY_OPERANDS ≡ true → are_allowed row agreed 0 ks ≡ true → has_kinds row ks (given_kind row.gives agreed ks) ≡ true
 row-has-kinds row agreed ks hf hm h =
     both-are (has_count row (length ks)) (are_allowed row (common_kind row ks) 0 ks && is_kind (given_kind row.gives (common_kind row ks) ks) (given_kind row.gives agreed ks)) (ap (λ b. if b then takes row (length ks) else (length ks == row.least)) hm ∙ hf.takes)
     (by-alike (is_alike (ask_at row (first_alike row))) refl)

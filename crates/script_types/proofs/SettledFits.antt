@@ -1,19 +1,25 @@
 -- That the right side of each settled statement fits where it stands, where nothing is unbuilt.
 use Rattle.std.proofs.Common.{◌≡◌, ◌<◌, ℕ, ◌+◌, Bool, true, false, not, ◌&&◌, ◌||◌, List, [], ◌∷◌, ◌++◌, map, length, refl, sym, ap, suc, subst, length-append, ◌∙◌, Result, Ok, Err, append_assoc, append-nil, if◌then◌else◌, arith}
-use Rattle.std.specs.Prelude.{Option, None, Some, nat_le, nat_lt}
+use Rattle.std.specs.Prelude.{⊤, IfSome, Option, None, Some, nat_le, nat_lt}
 use Rattle.std.specs.List.{list_all, list_any}
-use Rattle.std.specs.Option.{is_some}
+use Rattle.std.specs.Option.{is_some, unwrap_or}
 use Rattle.std.specs.Str.{bytes_eq}
 use Rattle.std.proofs.lemmas.List.Folds.{list_all-append}
+use Rattle.std.proofs.lemmas.Slice.Eq.{bytes_eq-Decides}
 use Rattle.text_base.specs.Results.{◌>>=◌}
 use Rattle.cell_values.specs.declared.kind.Kind.{Kind}
 use Rattle.cell_values.specs.declared.kind.Kind.TheVariants.{Boolean, Nominal, Ordinal, Scalar, Directional, Ldd}
 use Rattle.script_syntax.specs.declared.tree.Expr.{Expr, map-Expr, roll-Expr}
+use Rattle.script_syntax.specs.declared.tree.Expr.TheVariants as e
 use Rattle.script_syntax.specs.declared.tree.Expr.TheVariants.{rolls-Call, rolls-Name, rolls-Number}
 use Rattle.script_syntax.specs.declared.tree.Expr.TheFolds.{ind-Expr}
 use Rattle.script_syntax.specs.declared.tree.Expr.TheOpen.{Expr-F}
+use Rattle.script_syntax.specs.declared.tree.Binding.{Binding}
 use Rattle.script_syntax.specs.declared.tree.Script.{Script}
 use Rattle.script_syntax.specs.declared.tree.Statement.{Statement}
+use Rattle.script_syntax.specs.declared.tree.Target.{Target}
+use Rattle.script_syntax.specs.declared.tree.Target.TheVariants as target
+use Rattle.map_meaning.specs.declared.op.Op.{Op}
 use Rattle.map_meaning.specs.declared.op.Op.TheVariants.{CopyOf}
 use Rattle.map_meaning.specs.declared.program.InputUse.{InputUse}
 use Rattle.map_meaning.specs.declared.tree.Tree.{Tree, roll-Tree}
@@ -21,14 +27,17 @@ use Rattle.map_meaning.specs.declared.tree.Tree.TheVariants as tree
 use Rattle.map_meaning.specs.declared.tree.Tree.TheFolds.{ind-Tree}
 use Rattle.map_meaning.specs.declared.tree.Tree.TheOpen.{Tree-F}
 use Rattle.map_meaning.specs.Table.{is_kind, row_of}
+use Rattle.map_meaning.specs.Trees.{meaning_of, operations_in}
+use Rattle.map_meaning.proofs.Callers.{meaning_of-Call, meaning_of-LookUp, same_kind}
 use Rattle.script_types.specs.declared.fault.MeaningFault.{MeaningFault}
 use Rattle.script_types.specs.declared.fault.MeaningKind.{MeaningKind}
-use Rattle.script_types.specs.declared.fault.MeaningKind.TheVariants.{DrainPlace, KindMismatch, NameClash}
+use Rattle.script_types.specs.declared.fault.MeaningKind.TheVariants.{BadStackName, DrainPlace, KindMismatch, NameClash, TooMany}
 use Rattle.script_types.specs.declared.fault.Place.{Place}
 use Rattle.script_types.specs.declared.fault.Place.TheVariants as place
 use Rattle.script_types.specs.declared.typed.Line.{Line}
 use Rattle.script_types.specs.declared.typed.Section.{Section}
 use Rattle.script_types.specs.declared.typed.Section.TheVariants.{Initial, Dynamic}
+use Rattle.script_types.specs.declared.typed.Side.{Side}
 use Rattle.script_types.specs.declared.typed.Typed.{Typed}
 use Rattle.script_types.specs.declared.typed.Typed.TheVariants as typed
 use Rattle.script_types.specs.declared.typed.UsedAs.{UsedAs}
@@ -37,87 +46,174 @@ use Rattle.script_types.specs.declared.typed.Value.{Value}
 use Rattle.script_types.specs.Checks.{all_of, passed}
 use Rattle.script_types.specs.Lowered.{inputs_of}
 use Rattle.script_types.specs.Meaning.{area_checks, binding_checks, meaning}
-use Rattle.script_types.specs.Names.{binding_of, first_role, in_roles, is_assigned, is_bound_to_number}
+use Rattle.script_types.specs.Names.{binding_of, file_by, first_role, in_roles, is_assigned, is_bad_prefix, is_bound_to_number, is_sample, is_sampled, is_sampled_in}
 use Rattle.script_types.specs.Reports.{files_read, report_checks}
-use Rattle.script_types.specs.Statements.{all_lines, asked_kind, bound_kind, counts, free_side, is_call, kind_above, line_of_value, line_read, line_with, lines_below, next_line, operations_of, right_side, scope_at, side_checks, target_checks, told_at, with_operation}
-use Rattle.script_types.specs.Typing.{Scope, call_read, number_as, or_kind, typed_as}
+use Rattle.map_meaning.specs.Limits.{most_operations, most_stacks}
+use Rattle.script_types.specs.Statements.{all_lines, asked_kind, bound_kind, counts, differs, free_side, is_call, is_dynamic, is_stack_report, kind_above, line_of_side, line_read, line_with, lines_below}
+use Rattle.script_types.specs.Statements.{next_line, operations_of, right_side, scope_at, side_checks, target_checks, told_at, whole_side, with_operation}
+use Rattle.script_types.specs.Table.{stands_of, word_row}
+use Rattle.script_types.specs.Typing.{Scope, assigned_read, bound_read, call_read, input_as, input_checks, name_read, number_as, or_kind, target_read, typed_as}
 use Rattle.script_types.specs.Unbuilt.{calls_unbuilt, has_unbuilt_call, is_drain_kind, is_unbuilt, is_unbuilt_word}
-use Rattle.script_types.specs.inside.Fits.{Ground, fits}
-use Rattle.script_types.specs.inside.FitLines.{LineFits, LinesFit}
+use Rattle.script_types.specs.inside.Fits.{Ground, fits, is_ids}
+use Rattle.script_types.specs.inside.FitLines.{Frame, LineFits, LinesFit, script_frame}
 use Rattle.script_types.specs.inside.Sound.{are_sound, has_kinds, is_sound}
 use Rattle.script_types.proofs.RowKinds.{both-are}
 use Rattle.script_syntax.specs.Listed.{most_counted}
 use Rattle.script_syntax.specs.WellMade.{IsWellMade, calls_in, has_words, is_name, is_well_made_statement}
-use Rattle.script_types.proofs.BindingLemmas.{passed-over}
 use Rattle.script_types.proofs.Pairwise.{Each, each-append}
-use Rattle.script_types.proofs.CountLemmas.{count-call}
 use Rattle.script_types.proofs.FitLemmas.{both-left, both-right}
-use Rattle.script_types.proofs.FitNodes.{AllGood, IsGood, IsGoodScope, IsGoodTyped, call-fits, call-good, ground-of, name-good, number-good, ok-one, passed-is, passed-test, value-before}
+use Rattle.script_types.proofs.FitCalls.{AllGood, IsOfWord, call-fits, call-good}
+use Rattle.script_types.proofs.FitNodes.{IsGood, IsGoodScope, IsGoodTyped, ground-of, name-good, not-not, number-good, ok-one, passed-is, passed-rest, passed-test, value-before}
 use Rattle.script_types.proofs.FoundInputs.{bound-none, found-input}
 use Rattle.script_types.proofs.FoundRows.{neither-left, neither-right}
 use Rattle.script_types.proofs.TypedCalls.{operand_as, typed_call, typed_name, typed_number}
 use Rattle.script_types.proofs.UnbuiltLemmas.{calls-call}
 
+or-left : (a b : Bool) → a ≡ true → (a || b) ≡ true
+or-left true b h = refl
+or-left false b h = cc
+
+or-right : (a b : Bool) → b ≡ true → (a || b) ≡ true
+or-right true b h = refl
+or-right false b h = h
+
 -- ---- expressions
+
+-- a sample is that of a time series
+abbrev pub IsOfExpr : Expr → Typed → Type 0
+IsOfExpr x (typed.Sample ids v) = is_sample x ≡ true
+IsOfExpr x _ = ⊤
+
+-- what an expression is at its place fits, and is sampled where it is a time series alone
+pub record IsGoodAt (s : Scope) (inputs : List InputUse) (x : Expr) (role : UsedAs) (t : Typed) : Type 0 where
+  pub good : IsGoodTyped (ground-of s inputs) role t
+  pub word : IsOfExpr x t
 
 -- whatever an expression without an unbuilt call is at its place fits
 abbrev GoodAt : Scope → List InputUse → Expr → Type 0
-GoodAt s inputs x = (w : Bool) (role : UsedAs) (t : Typed) → calls_unbuilt x ≡ false → typed_as s x w role ≡ Ok t → IsGoodTyped (ground-of s inputs) t
+GoodAt s inputs x = (w : Bool) (role : UsedAs) (t : Typed) → calls_unbuilt x ≡ false → typed_as s x w role ≡ Ok t → IsGoodAt s inputs x role t
 
-operands-good : (s : Scope) (inputs : List InputUse) (es : List ((x : Expr) × GoodAt s inputs x)) (role : UsedAs) (ts : List Typed) → list_any calls_unbuilt (map (λ p. p.0) es) ≡ false → all_of (in_roles role (map (operand_as s) (map (λ p. p.0) es))) ≡ Ok ts → AllGood (ground-of s inputs) ts
-operands-good s inputs [] role ts hu h = subst (AllGood (ground-of s inputs)) (ok-one h) tt
+-- as many as there were
+pub record AreGoodAll (s : Scope) (inputs : List InputUse) (role : UsedAs) (count : ℕ) (ts : List Typed) : Type 0 where
+  pub good : AllGood (ground-of s inputs) role ts
+  pub many : length ts ≡ count
+
+operands-good : (s : Scope) (inputs : List InputUse) (es : List ((x : Expr) × GoodAt s inputs x)) (role : UsedAs) (ts : List Typed) → list_any calls_unbuilt (map (λ p. p.0) es) ≡ false → all_of (in_roles role (map (operand_as s) (map (λ p. p.0) es))) ≡ Ok ts → AreGoodAll s inputs role (length (map (λ p. p.0) es)) ts
+operands-good s inputs [] role ts hu h = subst (AreGoodAll s inputs role 0) (ok-one h) (record { good = tt; many = refl })
 operands-good s inputs (p ∷ es) role ts hu h =
     let rest = all_of (in_roles used.Grid (map (operand_as s) (map (λ q. q.0) es))) in
     let b = value-before (operand_as s p.0 role) (λ t. rest >>= λ us. Ok (t ∷ us)) ts h in
     let c = value-before rest (λ us. Ok (b.0 ∷ us)) ts b.2 in
-    subst (AllGood (ground-of s inputs)) (ok-one c.2) (
-      p.1 false role b.0 (neither-left (calls_unbuilt p.0) (list_any calls_unbuilt (map (λ q. q.0) es)) hu) b.1,
-      operands-good s inputs es used.Grid c.0 (neither-right (calls_unbuilt p.0) (list_any calls_unbuilt (map (λ q. q.0) es)) hu) c.1,
-    )
+    let more = operands-good s inputs es used.Grid c.0 (neither-right (calls_unbuilt p.0) (list_any calls_unbuilt (map (λ q. q.0) es)) hu) c.1 in
+    subst (AreGoodAll s inputs role (length (map (λ q. q.0) (p ∷ es)))) (ok-one c.2) (record {
+      good = ((p.1 false role b.0 (neither-left (calls_unbuilt p.0) (list_any calls_unbuilt (map (λ q. q.0) es)) hu) b.1).good, more.good);
+      many = ap suc more.many;
+    })
+
+input-word : (x : Expr) (role : UsedAs) (kind : Kind) (n : ℕ) → IsOfExpr x (input_as role kind n)
+input-word x used.Grid kind n = tt
+input-word x used.Stack kind n = tt
+input-word x (used.Table keys of) kind n = tt
+input-word x (used.Series of) kind n = tt
+
+assigned-word : (x : Expr) (sampled : Bool) (name : List ℕ) (o : Option Kind) (t : Typed) → assigned_read sampled name o ≡ Ok t → IsOfExpr x t
+assigned-word x sampled name None t h = cc
+assigned-word x sampled name (Some k) t h = subst (IsOfExpr x) (passed-is ((KindMismatch, sampled) ∷ []) (typed.Map (record { kind = k; tree = tree.Name k name })) t h) tt
+
+target-word : (x : Expr) (s : Scope) (role : UsedAs) (name : List ℕ) (kind : Option Kind) (to : Target) (t : Typed) → target_read s role name kind to ≡ Ok t → IsOfExpr x t
+target-word x s role name kind (target.File file) t h = subst (IsOfExpr x) (passed-is (input_checks s role name file (unwrap_or kind Scalar)) (input_as role (unwrap_or kind Scalar) (unwrap_or (s.input name) 0)) t h) (input-word x role (unwrap_or kind Scalar) (unwrap_or (s.input name) 0))
+target-word x s role name None (target.Number text) t h = subst (IsOfExpr x) (ok-one h) tt
+target-word x s role name (Some k) (target.Number text) t h = let b = value-before (number_as k text) (λ v. Ok (typed.Map v)) t h in subst (IsOfExpr x) (ok-one b.2) tt
+
+bound-word : (x : Expr) (s : Scope) (role : UsedAs) (name : List ℕ) (o : Option Binding) (t : Typed) → bound_read s role name o ≡ Ok t → IsOfExpr x t
+bound-word x s role name None t h = cc
+bound-word x s role name (Some b) t h = target-word x s role name b.kind b.target t h
+
+-- a name is no sample
+name-word : (x : Expr) (s : Scope) (role : UsedAs) (name : List ℕ) (t : Typed) → name_read s role name ≡ Ok t → IsOfExpr x t
+unfolding name_read
+name-word x s role name t h = by-test (s.is_assigned name) h
+  where
+    by-test : (b : Bool) → (if b then assigned_read (s.is_sampled name) name (s.above name) else bound_read s role name (s.binding name)) ≡ Ok t → IsOfExpr x t
+    by-test true g = assigned-word x (s.is_sampled name) name (s.above name) t g
+    by-test false g = bound-word x s role name (s.binding name) t g
+
+word-expr : (word : List ℕ) (args : List Expr) (t : Typed) → IsOfWord (stands_of (word_row word)) t → IsOfExpr (e.Call word args) t
+word-expr word args (typed.Literal text) h = tt
+word-expr word args (typed.Constant text) h = tt
+word-expr word args (typed.Map v) h = tt
+word-expr word args (typed.Table k n) h = tt
+word-expr word args (typed.Series k n) h = tt
+word-expr word args (typed.Stack k n) h = tt
+word-expr word args (typed.Sample ids v) h = h
 
 node-good : (s : Scope) (inputs : List InputUse) → IsGoodScope s inputs → (y : Expr-F ((x : Expr) × GoodAt s inputs x)) → GoodAt s inputs (roll-Expr (map-Expr ((x : Expr) × GoodAt s inputs x) Expr (λ p. p.0) y))
-node-good s inputs hs (Expr-F.Name name) = subst (GoodAt s inputs) (sym (rolls-Name name)) (λ w role t hu h. name-good s inputs role name t hs (sym (typed_name s name w role) ∙ h))
-node-good s inputs hs (Expr-F.Number text) = subst (GoodAt s inputs) (sym (rolls-Number text)) (λ w role t hu h. subst (IsGoodTyped (ground-of s inputs)) (ok-one (sym (typed_number s text w role) ∙ h)) tt)
+node-good s inputs hs (Expr-F.Name name) = subst (GoodAt s inputs) (sym (rolls-Name name)) (λ w role t hu h. let r = sym (typed_name s name w role) ∙ h in record { good = name-good s inputs role name t hs r; word = name-word (e.Name name) s role name t r })
+node-good s inputs hs (Expr-F.Number text) = subst (GoodAt s inputs) (sym (rolls-Number text)) (λ w role t hu h. subst (IsGoodAt s inputs (e.Number text) role) (ok-one (sym (typed_number s text w role) ∙ h)) (record { good = tt; word = tt }))
 node-good s inputs hs (Expr-F.Call word es) = subst (GoodAt s inputs) (sym (rolls-Call word (map (λ p. p.0) es))) (λ w role t hu h.
     let args = map (λ p. p.0) es in
     let unbuilt = sym (calls-call word args) ∙ hu in
     let found = all_of (in_roles (first_role word (length args)) (map (operand_as s) args)) in
     let b = value-before found (λ ts. call_read s.section w word ts) t (sym (typed_call s word args w role) ∙ h) in
-    call-good (ground-of s inputs) s.section w word b.0 t (neither-left (is_unbuilt_word word) (list_any calls_unbuilt args) unbuilt)
-    (operands-good s inputs es (first_role word (length args)) b.0 (neither-right (is_unbuilt_word word) (list_any calls_unbuilt args) unbuilt) b.1) b.2)
+    let all = operands-good s inputs es (first_role word (length args)) b.0 (neither-right (is_unbuilt_word word) (list_any calls_unbuilt args) unbuilt) b.1 in
+    let call = call-good (ground-of s inputs) (first_role word (length args)) s.section w word b.0 t refl (ap (first_role word) (sym all.many)) (neither-left (is_unbuilt_word word) (list_any calls_unbuilt args) unbuilt) all.good b.2 in
+    record { good = call.good role; word = word-expr word args t call.word })
 
 -- an expression without an unbuilt call
 pub expression-good : (s : Scope) (inputs : List InputUse) → IsGoodScope s inputs → (x : Expr) → GoodAt s inputs x
 expression-good s inputs hs = ind-Expr (GoodAt s inputs) (λ x y is. subst (λ z. GoodAt s inputs (roll-Expr z)) is (node-good s inputs hs y))
 
+-- ---- right sides
+
+-- a right side fits, and where it is sampled it is so in `dynamic` at a map of ids, by a time series
+pub record IsGoodSide (g : Ground) (x : Expr) (side : Side) : Type 0 where
+  pub value : IsGood g side.value.tree side.value.kind
+  pub ids : IfSome side.sample (λ ids. is_ids g.inputs ids ≡ true)
+  pub in_steps : is_some side.sample ≡ true → g.in_steps ≡ true
+  pub word : is_some side.sample ≡ true → is_sample x ≡ true
+
+whole-good : (g : Ground) (x : Expr) (v : Value) (side : Side) → IsGood g v.tree v.kind → whole_side v ≡ side → IsGoodSide g x side
+whole-good g x v side h k = subst (IsGoodSide g x) k (record { value = h; ids = tt; in_steps = λ q. cc; word = λ q. cc })
+
+free-good : (g : Ground) (x : Expr) (asked : Kind) (text : List ℕ) (side : Side) → (free_side asked text >>= λ v. Ok (whole_side v)) ≡ Ok side → IsGoodSide g x side
+free-good g x asked text side h =
+    let a = value-before (free_side asked text) (λ v. Ok (whole_side v)) side h in
+    let b = value-before (passed ((DrainPlace, is_kind Ldd asked) ∷ []) text) (λ t. number_as asked t) a.0 a.1 in
+    whole-good g x a.0 side (number-good g asked b.0 a.0 (passed-test (DrainPlace, is_kind Ldd asked) [] text b.0 b.1) b.2).0 (ok-one a.2)
+
+side-good : (g : Ground) (x : Expr) (asked : Kind) (t : Typed) (side : Side) → IsGoodTyped g used.Grid t → IsOfExpr x t → right_side asked t ≡ Ok side → IsGoodSide g x side
+side-good g x asked (typed.Literal text) side ht hw h = free-good g x asked text side h
+side-good g x asked (typed.Constant text) side ht hw h = free-good g x asked text side h
+side-good g x asked (typed.Map u) side ht hw h = whole-good g x u side ht (ok-one h)
+side-good g x asked (typed.Sample ids v) side ht hw h = subst (IsGoodSide g x) (ok-one h) (record { value = ht.0; ids = ht.1; in_steps = λ q. ht.2; word = λ q. hw })
+side-good g x asked (typed.Table kind n) side ht hw h = cc
+side-good g x asked (typed.Series kind n) side ht hw h = cc
+side-good g x asked (typed.Stack kind n) side ht hw h = cc
+
 -- ---- statements
 
-free-good : (g : Ground) (asked : Kind) (text : List ℕ) (v : Value) → free_side asked text ≡ Ok v → IsGood g v.tree v.kind
-free-good g asked text v h =
-    let b = value-before (passed ((DrainPlace, is_kind Ldd asked) ∷ []) text) (λ t. number_as asked t) v h in
-    (number-good g asked b.0 v (passed-test (DrainPlace, is_kind Ldd asked) [] text b.0 b.1) b.2).0
+count-call : (k : Kind) (o : Op) (args : List Tree) → operations_of (tree.Call k o args) ≡ operations_in (map meaning_of args) + 1
+count-call k o args = ap (λ m. m.operations) (meaning_of-Call k o args)
 
-side-good : (g : Ground) (asked : Kind) (t : Typed) (v : Value) → IsGoodTyped g t → right_side asked t ≡ Ok v → IsGood g v.tree v.kind
-side-good g asked (typed.Literal text) v ht h = free-good g asked text v h
-side-good g asked (typed.Constant text) v ht h = free-good g asked text v h
-side-good g asked (typed.Map u) v ht h = subst (λ (w : Value). IsGood g w.tree w.kind) (ok-one h) ht
-side-good g asked (typed.Table kind) v ht h = cc
-side-good g asked (typed.Series kind) v ht h = cc
-side-good g asked (typed.Stack kind) v ht h = cc
+count-look-up : (k : Kind) (o : Op) (file : ℕ) (args : List Tree) → operations_of (tree.LookUp k o file args) ≡ operations_in (map meaning_of args) + 1
+count-look-up k o file args = ap (λ m. m.operations) (meaning_of-LookUp k o file args)
 
 node-counts : (x : Tree-F Tree) → is_call (roll-Tree x) ≡ true → 0 < operations_of (roll-Tree x)
 node-counts (Tree-F.Number k c) h = let z = sym (ap is_call (tree.rolls-Number k c)) ∙ h in cc
+node-counts Tree-F.Time h = let z = sym (ap is_call tree.rolls-Time) ∙ h in cc
 node-counts (Tree-F.Input k n) h = let z = sym (ap is_call (tree.rolls-Input k n)) ∙ h in cc
+node-counts (Tree-F.Stack k n) h = let z = sym (ap is_call (tree.rolls-Stack k n)) ∙ h in cc
 node-counts (Tree-F.Name k name) h = let z = sym (ap is_call (tree.rolls-Name k name)) ∙ h in cc
 node-counts (Tree-F.Call k o args) h = let c = ap operations_of (tree.rolls-Call k o args) ∙ count-call k o args in omega (arith, c)
+node-counts (Tree-F.LookUp k o file args) h = let c = ap operations_of (tree.rolls-LookUp k o file args) ∙ count-look-up k o file args in omega (arith, c)
 
 call-counts : (t : Tree) → is_call t ≡ true → 0 < operations_of t
 call-counts = ind-Tree (λ t. is_call t ≡ true → 0 < operations_of t) (λ x y is. node-counts x)
 
--- a right side with an operation fits, has the kind and an operation
-pub record HasValue (g : Ground) (t : Tree) (kind : Kind) : Type 0 where
+-- a right side fits, has the kind, and has an operation unless it is sampled
+pub record HasValue (g : Ground) (sampled : Bool) (t : Tree) (kind : Kind) : Type 0 where
   pub good : IsGood g t kind
-  pub operation : 0 < operations_of t
+  pub operation : sampled ≡ false → 0 < operations_of t
 
 -- a copy keeps to the table where it is of no drain map
 copy-kinds : (kind : Kind) → is_kind Ldd kind ≡ false → has_kinds (row_of CopyOf) (kind ∷ []) kind ≡ true
@@ -129,37 +225,125 @@ copy-kinds Scalar h = refl
 copy-kinds Directional h = refl
 copy-kinds Ldd h = cc
 
-with-good : (g : Ground) (t : Tree) (kind : Kind) → IsGood g t kind → HasValue g (with_operation kind t) kind
-with-good g t kind h = by-test (is_call t) (is_kind Ldd kind) refl h.plain
+with-good : (g : Ground) (sampled : Bool) (t : Tree) (kind : Kind) → IsGood g t kind → HasValue g sampled (with_operation sampled kind t) kind
+with-good g sampled t kind h = by-test (is_call t) (is_kind Ldd kind) sampled refl h.plain
   where
-    by-test : (c l : Bool) → is_call t ≡ c → l ≡ false → HasValue g (if c || l then t else tree.Call kind CopyOf (t ∷ [])) kind
-    by-test true l hc hl = record { good = h; operation = call-counts t hc }
-    by-test false true hc hl = cc
-    by-test false false hc hl = let c = count-call kind CopyOf (t ∷ []) in record { good = call-fits g kind CopyOf (t ∷ []) (both-are (fits g t) true h.value refl) (both-are (is_sound t) true h.sound refl) refl (ap (λ k. has_kinds (row_of CopyOf) (k ∷ []) kind) h.of_kind ∙ copy-kinds kind h.plain) h.plain; operation = omega (arith, c) }
+    by-test : (c l d : Bool) → is_call t ≡ c → l ≡ false → HasValue g d (if c || l || d then t else tree.Call kind CopyOf (t ∷ [])) kind
+    by-test true l d hc hl = record { good = h; operation = λ q. call-counts t hc }
+    by-test false true d hc hl = cc
+    by-test false false true hc hl = record { good = h; operation = λ q. cc }
+    by-test false false false hc hl = let c = count-call kind CopyOf (t ∷ []) in record { good = call-fits g kind CopyOf (t ∷ []) (both-are (fits g t) true h.value refl) (both-are (is_sound t) true h.sound refl) refl (ap (λ k. has_kinds (row_of CopyOf) (k ∷ []) kind) h.of_kind ∙ copy-kinds kind h.plain) h.plain; operation = λ q. omega (arith, c) }
+
+-- what the tests of a target leave: it has no other kind, a stack that is written has a prefix, and no limit is passed
+pub record HasPassed (s : Scope) (before : ℕ) (st : Statement) (sampled : Bool) (kind : Kind) (t : Tree) : Type 0 where
+  pub agrees : differs (s.above st.name) kind ≡ false
+  pub prefix : (is_stack_report s.section st.report sampled && is_bad_prefix (file_by (s.binding st.name) st.name) s.steps) ≡ false
+  pub few : nat_lt most_operations (before + operations_of t) ≡ false
+  pub few_written : (is_stack_report s.section st.report sampled && nat_le most_stacks s.stacks_written) ≡ false
+  pub few_read : nat_lt most_stacks s.stacks_read ≡ false
+
+has-passed : (s : Scope) (before : ℕ) (st : Statement) (sampled : Bool) (kind : Kind) (t : Tree) (x y : Line) → passed (target_checks s before st sampled kind t) x ≡ Ok y → HasPassed s before st sampled kind t
+has-passed s before st sampled kind t x y h =
+    let stack = is_stack_report s.section st.report sampled in
+    let c0 : MeaningKind × Bool = (NameClash, is_bound_to_number (s.binding st.name)) in
+    let c1 : MeaningKind × Bool = (KindMismatch, differs (s.above st.name) kind || differs (bound_kind (s.binding st.name)) kind) in
+    let c2 : MeaningKind × Bool = (BadStackName, stack && is_bad_prefix (file_by (s.binding st.name) st.name) s.steps) in
+    let c3 : MeaningKind × Bool = (TooMany, nat_lt most_operations (before + operations_of t)) in
+    let c4 : MeaningKind × Bool = (TooMany, stack && nat_le most_stacks s.stacks_written) in
+    let c5 : MeaningKind × Bool = (TooMany, nat_lt most_stacks s.stacks_read) in
+    let h1 = passed-rest c0 (c1 ∷ c2 ∷ c3 ∷ c4 ∷ c5 ∷ []) x y h in
+    let h2 = passed-rest c1 (c2 ∷ c3 ∷ c4 ∷ c5 ∷ []) x y h1 in
+    let h3 = passed-rest c2 (c3 ∷ c4 ∷ c5 ∷ []) x y h2 in
+    let h4 = passed-rest c3 (c4 ∷ c5 ∷ []) x y h3 in
+    let h5 = passed-rest c4 (c5 ∷ []) x y h4 in
+    record {
+      agrees = neither-left (differs (s.above st.name) kind) (differs (bound_kind (s.binding st.name)) kind) (passed-test c1 (c2 ∷ c3 ∷ c4 ∷ c5 ∷ []) x y h1);
+      prefix = passed-test c2 (c3 ∷ c4 ∷ c5 ∷ []) x y h2;
+      few = passed-test c3 (c4 ∷ c5 ∷ []) x y h3;
+      few_written = passed-test c4 (c5 ∷ []) x y h4;
+      few_read = passed-test c5 [] x y h5;
+    }
+
+-- the right side of a statement with its operation
+abbrev pub whole-of : Side → Tree
+whole-of side = with_operation (is_some side.sample) side.value.kind side.value.tree
+
+-- the settled statement with a right side
+abbrev pub line-of : Scope → Statement → Side → Line
+line-of s st side = line_with s.section st side.sample side.value.kind (whole-of side)
+
+-- what a settled statement is: a right side with its operation, whose target has passed
+pub record IsLineOf (s : Scope) (before : ℕ) (st : Statement) (l : Line) : Type 0 where
+  pub typed_is : Typed
+  pub typed : typed_as s st.expr true used.Grid ≡ Ok typed_is
+  pub side : Side
+  pub sided : right_side (asked_kind (s.above st.name) (bound_kind (s.binding st.name))) typed_is ≡ Ok side
+  pub is : l ≡ line-of s st side
+  pub passed : HasPassed s before st (is_some side.sample) side.value.kind (whole-of side)
+
+-- the target of a statement with this right side passes
+target-passes : (s : Scope) (before : ℕ) (st : Statement) (side : Side) (l : Line) → line_of_side s before st side ≡ Ok l → passed (target_checks s before st (is_some side.sample) side.value.kind (whole-of side)) (line-of s st side) ≡ Ok l
+target-passes s before st side l h =
+    let next : Tree → Result Line MeaningKind = λ t. passed (target_checks s before st (is_some side.sample) side.value.kind t) (line_with s.section st side.sample side.value.kind t) in
+    let d = value-before (passed (side_checks s.section side.value.kind) (whole-of side)) next l h in
+    ap next (passed-is (side_checks s.section side.value.kind) (whole-of side) d.0 d.1) ∙ d.2
+
+-- a statement without a fault
+pub line-parts : (s : Scope) (before : ℕ) (st : Statement) (l : Line) → line_read s before st ≡ Ok l → IsLineOf s before st l
+unfolding line_read
+line-parts s before st l h =
+    let asked = asked_kind (s.above st.name) (bound_kind (s.binding st.name)) in
+    let b = value-before (typed_as s st.expr true used.Grid) (λ t. right_side asked t >>= λ side. line_of_side s before st side) l h in
+    let c = value-before (right_side asked b.0) (λ side. line_of_side s before st side) l b.2 in
+    let target = target-passes s before st c.0 l c.2 in
+    record {
+      typed_is = b.0;
+      typed = b.1;
+      side = c.0;
+      sided = c.1;
+      is = sym (passed-is (target_checks s before st (is_some c.0.sample) c.0.value.kind (whole-of c.0)) (line-of s st c.0) l target);
+      passed = has-passed s before st (is_some c.0.sample) c.0.value.kind (whole-of c.0) (line-of s st c.0) l target;
+    }
 
 -- a settled line fits, and has no drain map
-pub record IsGoodLine (g : Ground) (l : Line) : Type 0 where
-  pub fits : LineFits g l
+pub record IsGoodLine (script : Script) (above : List Line) (l : Line) : Type 0 where
+  pub fits : LineFits (script_frame script) above l
   pub plain : is_kind Ldd l.kind ≡ false
   pub sound : is_sound l.statement.value ≡ true
 
-value-line : (s : Scope) (inputs : List InputUse) (before : ℕ) (st : Statement) (v : Value) (l : Line) → IsGood (ground-of s inputs) v.tree v.kind → line_of_value s before st v ≡ Ok l → IsGoodLine (ground-of s inputs) l
-value-line s inputs before st v l hv h =
-    let b = value-before (passed (side_checks s.section v.kind) (with_operation v.kind v.tree)) (λ t. passed (target_checks s before st v.kind t) (line_with s.section st v.kind t)) l h in
-    let e = passed-is (side_checks s.section v.kind) (with_operation v.kind v.tree) b.0 b.1 in
-    let f = passed-is (target_checks s before st v.kind b.0) (line_with s.section st v.kind b.0) l b.2 in
-    let w = with-good (ground-of s inputs) v.tree v.kind hv in
-    subst (IsGoodLine (ground-of s inputs)) (ap (line_with s.section st v.kind) e ∙ f)
-    (record { fits = record { value = w.good.value; kind = w.good.of_kind; operation = w.operation }; plain = w.good.plain; sound = w.good.sound })
+agrees-some : (o : Option Kind) (kind : Kind) → differs o kind ≡ false → IfSome o (λ k. k ≡ kind)
+agrees-some None kind h = tt
+agrees-some (Some k) kind h = same_kind k kind (not-not (is_kind k kind) h)
+
+in-dynamic : (section : Section) → is_dynamic section ≡ true → section ≡ Dynamic
+in-dynamic Initial h = cc
+in-dynamic Dynamic h = refl
+
+none-sampled : {A : Type 0} (o : Option A) → o ≡ None → is_some o ≡ false
+none-sampled o h = ap is_some h
 
 -- a statement without an unbuilt call
-line-good : (s : Scope) (inputs : List InputUse) (before : ℕ) (st : Statement) (l : Line) → IsGoodScope s inputs → calls_unbuilt st.expr ≡ false → line_read s before st ≡ Ok l → IsGoodLine (ground-of s inputs) l
-unfolding line_read
-line-good s inputs before st l hs hu h =
-    let asked = asked_kind (s.above st.name) (bound_kind (s.binding st.name)) in
-    let b = value-before (typed_as s st.expr true used.Grid) (λ t. right_side asked t >>= λ v. line_of_value s before st v) l h in
-    let c = value-before (right_side asked b.0) (λ v. line_of_value s before st v) l b.2 in
-    value-line s inputs before st c.0 l (side-good (ground-of s inputs) asked b.0 c.0 (expression-good s inputs hs st.expr true used.Grid b.0 hu b.1) c.1) c.2
+line-good : (script : Script) (section : Section) (above : List Line) (before : ℕ) (st : Statement) (l : Line) → IsGoodScope (scope_at script section above) (inputs_of script) → calls_unbuilt st.expr ≡ false → (is_sample st.expr ≡ true → is_sampled script st.name ≡ true) → line_read (scope_at script section above) before st ≡ Ok l → IsGoodLine script above l
+line-good script section above before st l hs hu hd h =
+    let s = scope_at script section above in
+    let g = ground-of s (inputs_of script) in
+    let p = line-parts s before st l h in
+    let at = expression-good s (inputs_of script) hs st.expr true used.Grid p.typed_is hu p.typed in
+    let side = side-good g st.expr (asked_kind (s.above st.name) (bound_kind (s.binding st.name))) p.typed_is p.side at.good at.word p.sided in
+    let w = with-good g (is_some p.side.sample) p.side.value.tree p.side.value.kind side.value in
+    subst (IsGoodLine script above) (sym p.is) (record {
+      fits = record {
+        value = w.good.value;
+        kind = w.good.of_kind;
+        agrees = agrees-some (kind_above above st.name) p.side.value.kind p.passed.agrees;
+        operation = λ q. w.operation (none-sampled p.side.sample q);
+        ids = side.ids;
+        sampled = λ q. hd (side.word q);
+        in_steps = λ q. in-dynamic section (side.in_steps q);
+      };
+      plain = w.good.plain;
+      sound = w.good.sound;
+    })
 
 -- ---- all statements
 
@@ -187,10 +371,10 @@ scope-good : (script : Script) (section : Section) (lines : List Line) → list_
 scope-good script section lines hb hd = record {
   above = λ name k h. above-plain lines name k hd h;
   bound = λ name b h. bound-none (λ c. is_drain_kind c.kind) script name b hb h;
-  input = λ name b file hn ht ha hr. found-input script name b file hn ht ha hr;
+  input = λ name b file role hn ht ha hr. found-input script name b file role hn ht ha hr;
 }
 
-told-ok : (at : Place) (r : Result Line MeaningKind) (l : Line) → told_at at r ≡ Ok l → r ≡ Ok l
+pub told-ok : (at : Place) (r : Result Line MeaningKind) (l : Line) → told_at at r ≡ Ok l → r ≡ Ok l
 told-ok at (Ok m) l h = let e : m ≡ l = cc in ap (λ z. Ok z) e
 told-ok at (Err f) l h = cc
 
@@ -198,24 +382,30 @@ told-ok at (Err f) l h = cc
 pub record Follow (script : Script) (above lines : List Line) : Type 0 where
   pub rest : List Line
   pub split : lines ≡ above ++ rest
-  pub fit : LinesFit (inputs_of script) above rest
+  pub fit : LinesFit (script_frame script) above rest
   pub plain : NoDrains lines
 
-plain-more : (g : Ground) (lines : List Line) (l : Line) → NoDrains lines → IsGoodLine g l → NoDrains (lines ++ l ∷ [])
-plain-more g lines l hd h = list_all-append is-plain-line lines (l ∷ []) ∙ both-are (list_all is-plain-line lines) (is-plain-line l && true) hd (both-are (is-plain-line l) true (both-are (not (is_kind Ldd l.kind)) (is_sound l.statement.value) (ap not h.plain) h.sound) refl)
+plain-more : (script : Script) (lines : List Line) (l : Line) → NoDrains lines → IsGoodLine script lines l → NoDrains (lines ++ l ∷ [])
+plain-more script lines l hd h = list_all-append is-plain-line lines (l ∷ []) ∙ both-are (list_all is-plain-line lines) (is-plain-line l && true) hd (both-are (is-plain-line l) true (both-are (not (is_kind Ldd l.kind)) (is_sound l.statement.value) (ap not h.plain) h.sound) refl)
 
-follow-on : (script : Script) (section : Section) (above lines : List Line) (ss : List Statement) → list_any (λ b. is_drain_kind b.kind) script.bindings ≡ false → has_unbuilt_call ss ≡ false → NoDrains above → lines_below script section above ss ≡ Ok lines → Follow script above lines
-follow-on script section above lines [] hb hu hd h = let z : above ≡ lines = cc in record { rest = []; split = sym z ∙ sym (append-nil above); fit = tt; plain = ap (list_all is-plain-line) (sym z) ∙ hd }
-follow-on script section above lines (s ∷ ss) hb hu hd h =
+sampled-here : (s : Statement) (ss : List Statement) → is_sample s.expr ≡ true → is_sampled_in (s ∷ ss) s.name ≡ true
+sampled-here s ss h = ap (λ b. b && is_sample s.expr || is_sampled_in ss s.name) ((bytes_eq-Decides s.name s.name).1 refl) ∙ ap (λ b. b || is_sampled_in ss s.name) h
+
+sampled-later : (s : Statement) (ss : List Statement) (name : List ℕ) → is_sampled_in ss name ≡ true → is_sampled_in (s ∷ ss) name ≡ true
+sampled-later s ss name h = or-right (bytes_eq name s.name && is_sample s.expr) (is_sampled_in ss name) h
+
+follow-on : (script : Script) (section : Section) (above lines : List Line) (ss : List Statement) → list_any (λ b. is_drain_kind b.kind) script.bindings ≡ false → has_unbuilt_call ss ≡ false → ((name : List ℕ) → is_sampled_in ss name ≡ true → is_sampled script name ≡ true) → NoDrains above → lines_below script section above ss ≡ Ok lines → Follow script above lines
+follow-on script section above lines [] hb hu hm hd h = let z : above ≡ lines = cc in record { rest = []; split = sym z ∙ sym (append-nil above); fit = tt; plain = ap (list_all is-plain-line) (sym z) ∙ hd }
+follow-on script section above lines (s ∷ ss) hb hu hm hd h =
     let b = value-before (next_line script section above s) (λ l. lines_below script section (above ++ l ∷ []) ss) lines h in
     let read = told-ok (place.Statement (length above + 1)) (line_read (scope_at script section above) (counts section above) s) b.0 b.1 in
-    let good = line-good (scope_at script section above) (inputs_of script) (counts section above) s b.0 (scope-good script section above hb hd) (neither-left (calls_unbuilt s.expr) (has_unbuilt_call ss) hu) read in
-    let i = follow-on script section (above ++ b.0 ∷ []) lines ss hb (neither-right (calls_unbuilt s.expr) (has_unbuilt_call ss) hu) (plain-more (ground-of (scope_at script section above) (inputs_of script)) above b.0 hd good) b.2 in
+    let good = line-good script section above (counts section above) s b.0 (scope-good script section above hb hd) (neither-left (calls_unbuilt s.expr) (has_unbuilt_call ss) hu) (λ q. hm s.name (sampled-here s ss q)) read in
+    let i = follow-on script section (above ++ b.0 ∷ []) lines ss hb (neither-right (calls_unbuilt s.expr) (has_unbuilt_call ss) hu) (λ name q. hm name (sampled-later s ss name q)) (plain-more script above b.0 hd good) b.2 in
     record { rest = b.0 ∷ i.rest; split = i.split ∙ append_assoc above (b.0 ∷ []) i.rest; fit = (good.fits, i.fit); plain = i.plain }
 
-fit-append : (inputs : List InputUse) (above xs ys : List Line) → LinesFit inputs above xs → LinesFit inputs (above ++ xs) ys → LinesFit inputs above (xs ++ ys)
-fit-append inputs above [] ys hx hy = subst (λ a. LinesFit inputs a ys) (append-nil above) hy
-fit-append inputs above (x ∷ xs) ys hx hy = (hx.0, fit-append inputs (above ++ x ∷ []) xs ys hx.1 (subst (λ a. LinesFit inputs a ys) (sym (append_assoc above (x ∷ []) xs)) hy))
+fit-append : (frame : Frame) (above xs ys : List Line) → LinesFit frame above xs → LinesFit frame (above ++ xs) ys → LinesFit frame above (xs ++ ys)
+fit-append frame above [] ys hx hy = subst (λ a. LinesFit frame a ys) (append-nil above) hy
+fit-append frame above (x ∷ xs) ys hx hy = (hx.0, fit-append frame (above ++ x ∷ []) xs ys hx.1 (subst (λ a. LinesFit frame a ys) (sym (append_assoc above (x ∷ []) xs)) hy))
 
 sound-of : (lines : List Line) → NoDrains lines → are_sound lines ≡ true
 sound-of [] h = refl
@@ -223,35 +413,52 @@ sound-of (l ∷ ls) h = both-are (is_sound l.statement.value) (are_sound ls) (bo
 
 -- the statements fit, and keep to the table
 record AreGood (script : Script) (lines : List Line) : Type 0 where
-  fit : LinesFit (inputs_of script) [] lines
+  fit : LinesFit (script_frame script) [] lines
   sound : are_sound lines ≡ true
+
+-- what a script that is built has none of
+pub record IsBuilt (script : Script) : Type 0 where
+  pub bindings : list_any (λ b. is_drain_kind b.kind) script.bindings ≡ false
+  pub in_initial : has_unbuilt_call script.initial ≡ false
+  pub in_dynamic : has_unbuilt_call script.dynamic ≡ false
+
+pub built-parts : (script : Script) → is_unbuilt script ≡ false → IsBuilt script
+built-parts script hu =
+    let bindings = list_any (λ b. is_drain_kind b.kind) script.bindings in
+    let first = neither-left (bindings || has_unbuilt_call script.initial) (has_unbuilt_call script.dynamic) hu in
+    record {
+      bindings = neither-left bindings (has_unbuilt_call script.initial) first;
+      in_initial = neither-right bindings (has_unbuilt_call script.initial) first;
+      in_dynamic = neither-right (bindings || has_unbuilt_call script.initial) (has_unbuilt_call script.dynamic) hu;
+    }
 
 all-fit : (script : Script) (lines : List Line) → is_unbuilt script ≡ false → all_lines script ≡ Ok lines → AreGood script lines
 all-fit script lines hu h =
-    let bindings = list_any (λ b. is_drain_kind b.kind) script.bindings in
-    let first = neither-left (nat_lt 0 script.steps || bindings || has_unbuilt_call script.initial) (has_unbuilt_call script.dynamic) hu in
-    let second = neither-left (nat_lt 0 script.steps || bindings) (has_unbuilt_call script.initial) first in
-    let hb = neither-right (nat_lt 0 script.steps) bindings second in
+    let built = built-parts script hu in
     let b = value-before (lines_below script Initial [] script.initial) (λ ls. lines_below script Dynamic ls script.dynamic) lines h in
-    let i = follow-on script Initial [] b.0 script.initial hb (neither-right (nat_lt 0 script.steps || bindings) (has_unbuilt_call script.initial) first) refl b.1 in
-    let j = follow-on script Dynamic b.0 lines script.dynamic hb (neither-right (nat_lt 0 script.steps || bindings || has_unbuilt_call script.initial) (has_unbuilt_call script.dynamic) hu) i.plain b.2 in
-    record { sound = sound-of lines j.plain; fit = subst (LinesFit (inputs_of script) []) (ap (λ x. x ++ j.rest) (sym i.split) ∙ sym j.split) (fit-append (inputs_of script) [] i.rest j.rest i.fit (subst (λ a. LinesFit (inputs_of script) a j.rest) i.split j.fit)) }
+    let i = follow-on script Initial [] b.0 script.initial built.bindings built.in_initial (λ name q. or-left (is_sampled_in script.initial name) (is_sampled_in script.dynamic name) q) refl b.1 in
+    let j = follow-on script Dynamic b.0 lines script.dynamic built.bindings built.in_dynamic (λ name q. or-right (is_sampled_in script.initial name) (is_sampled_in script.dynamic name) q) i.plain b.2 in
+    record { sound = sound-of lines j.plain; fit = subst (LinesFit (script_frame script) []) (ap (λ x. x ++ j.rest) (sym i.split) ∙ sym j.split) (fit-append (script_frame script) [] i.rest j.rest i.fit (subst (λ a. LinesFit (script_frame script) a j.rest) i.split j.fit)) }
 
 -- what a script without a fault has: its statements, and an area map that is no number and no binding that is assigned
 pub record HasLines (script : Script) (lines : List Line) : Type 0 where
+  pub bound_is : Script
+  pub bound : passed (binding_checks [] script.bindings) script ≡ Ok bound_is
   pub all : all_lines script ≡ Ok lines
   pub number : is_bound_to_number (binding_of script script.area) ≡ false
   pub assigned : (is_some (binding_of script script.area) && is_assigned script script.area) ≡ false
 
-parts-of : (script s t : Script) (lines ls : List Line) → script ≡ s → passed (area_checks (binding_of s s.area) (is_assigned s s.area)) s ≡ Ok t → all_lines t ≡ Ok ls → ls ≡ lines → HasLines script lines
-parts-of script s t lines ls hs ht h he =
+parts-of : (script s t : Script) (lines ls : List Line) → passed (binding_checks [] script.bindings) script ≡ Ok s → script ≡ s → passed (area_checks (binding_of s s.area) (is_assigned s s.area)) s ≡ Ok t → all_lines t ≡ Ok ls → ls ≡ lines → HasLines script lines
+parts-of script s t lines ls hb hs ht h he =
     let bound = is_bound_to_number (binding_of s s.area) in
     let clash = is_some (binding_of s s.area) && is_assigned s s.area in
     let mismatch-fault : MeaningFault = record { at = place.Area; kind = KindMismatch } in
     let clash-fault : MeaningFault = record { at = place.Area; kind = NameClash } in
     let first = passed-test (mismatch-fault, bound) ((clash-fault, clash) ∷ []) s t ht in
-    let second = passed-test (clash-fault, clash) [] s t (sym (passed-over mismatch-fault bound ((clash-fault, clash) ∷ []) s first) ∙ ht) in
+    let second = passed-test (clash-fault, clash) [] s t (passed-rest (mismatch-fault, bound) ((clash-fault, clash) ∷ []) s t ht) in
     record {
+      bound_is = s;
+      bound = hb;
       all = ap all_lines (hs ∙ passed-is (area_checks (binding_of s s.area) (is_assigned s s.area)) s t ht) ∙ h ∙ ap (λ x. Ok x) he;
       number = subst (λ z. is_bound_to_number (binding_of z z.area) ≡ false) (sym hs) first;
       assigned = subst (λ z. (is_some (binding_of z z.area) && is_assigned z z.area) ≡ false) (sym hs) second;
@@ -260,15 +467,15 @@ parts-of script s t lines ls hs ht h he =
 pub has-lines : (script : Script) (lines : List Line) → meaning script ≡ Ok lines → HasLines script lines
 unfolding meaning
 has-lines script lines h =
-    let after = λ (s : Script). passed (area_checks (binding_of s s.area) (is_assigned s s.area)) s >>= λ t. all_lines t >>= λ ls. passed (report_checks (binding_of t) (files_read t) 0 ls) ls in
+    let after = λ (s : Script). passed (area_checks (binding_of s s.area) (is_assigned s s.area)) s >>= λ t. all_lines t >>= λ ls. passed (report_checks t.steps (binding_of t) (files_read t) 0 ls) ls in
     let b = value-before (passed (binding_checks [] script.bindings) script) after lines h in
-    let c = value-before (passed (area_checks (binding_of b.0 b.0.area) (is_assigned b.0 b.0.area)) b.0) (λ t. all_lines t >>= λ ls. passed (report_checks (binding_of t) (files_read t) 0 ls) ls) lines b.2 in
-    let d = value-before (all_lines c.0) (λ ls. passed (report_checks (binding_of c.0) (files_read c.0) 0 ls) ls) lines c.2 in
-    parts-of script b.0 c.0 lines d.0 (passed-is (binding_checks [] script.bindings) script b.0 b.1) c.1 d.1
-    (passed-is (report_checks (binding_of c.0) (files_read c.0) 0 d.0) d.0 lines d.2)
+    let c = value-before (passed (area_checks (binding_of b.0 b.0.area) (is_assigned b.0 b.0.area)) b.0) (λ t. all_lines t >>= λ ls. passed (report_checks t.steps (binding_of t) (files_read t) 0 ls) ls) lines b.2 in
+    let d = value-before (all_lines c.0) (λ ls. passed (report_checks c.0.steps (binding_of c.0) (files_read c.0) 0 ls) ls) lines c.2 in
+    parts-of script b.0 c.0 lines d.0 b.1 (passed-is (binding_checks [] script.bindings) script b.0 b.1) c.1 d.1
+    (passed-is (report_checks c.0.steps (binding_of c.0) (files_read c.0) 0 d.0) d.0 lines d.2)
 
 -- the settled statements of a script that is built fit where they stand
-pub lines-fit : (script : Script) (lines : List Line) → is_unbuilt script ≡ false → meaning script ≡ Ok lines → LinesFit (inputs_of script) [] lines
+pub lines-fit : (script : Script) (lines : List Line) → is_unbuilt script ≡ false → meaning script ≡ Ok lines → LinesFit (script_frame script) [] lines
 lines-fit script lines hu h = (all-fit script lines hu (has-lines script lines h).all).fit
 
 -- and keep to the table
@@ -277,20 +484,9 @@ lines-sound script lines hu h = (all-fit script lines hu (has-lines script lines
 
 -- ---- the names that are assigned
 
-value-name : (s : Scope) (before : ℕ) (st : Statement) (v : Value) (l : Line) → line_of_value s before st v ≡ Ok l → l.statement.target ≡ st.name
-value-name s before st v l h =
-    let b = value-before (passed (side_checks s.section v.kind) (with_operation v.kind v.tree)) (λ t. passed (target_checks s before st v.kind t) (line_with s.section st v.kind t)) l h in
-    let e = passed-is (target_checks s before st v.kind b.0) (line_with s.section st v.kind b.0) l b.2 in
-    subst (λ (x : Line). x.statement.target ≡ st.name) e refl
-
 -- the line assigns the statement's name
-line-name : (s : Scope) (before : ℕ) (st : Statement) (l : Line) → line_read s before st ≡ Ok l → l.statement.target ≡ st.name
-unfolding line_read
-line-name s before st l h =
-    let asked = asked_kind (s.above st.name) (bound_kind (s.binding st.name)) in
-    let b = value-before (typed_as s st.expr true used.Grid) (λ t. right_side asked t >>= λ v. line_of_value s before st v) l h in
-    let c = value-before (right_side asked b.0) (λ v. line_of_value s before st v) l b.2 in
-    value-name s before st c.0 l c.2
+pub line-name : (s : Scope) (before : ℕ) (st : Statement) (l : Line) → line_read s before st ≡ Ok l → l.statement.target ≡ st.name
+line-name s before st l h = ap (λ (x : Line). x.statement.target) (line-parts s before st l h).is
 
 -- each line assigns a name, and there are as many as statements
 pub record AreNamed (count : ℕ) (lines : List Line) : Type 0 where

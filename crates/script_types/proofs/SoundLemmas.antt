@@ -10,7 +10,7 @@ use Rattle.map_meaning.specs.declared.tree.Tree.TheVariants as tree
 use Rattle.map_meaning.specs.declared.tree.Tree.TheFolds.{fold-roll-Tree, ind-Tree}
 use Rattle.map_meaning.specs.declared.tree.Tree.TheOpen.{Tree-F}
 use Rattle.map_meaning.specs.Rules.{kind_at}
-use Rattle.map_meaning.specs.Table.{HasKinds, allows, ask_at, common_kind, given_kind, has_count, is_kind, row_of}
+use Rattle.map_meaning.specs.Table.{HasKinds, allows, ask_at, common_kind, given_kind, has_count, is_kind, map_row, row_of}
 use Rattle.map_meaning.specs.Trees.{TreeMeaning, meaning_level, meaning_of}
 use Rattle.map_meaning.proofs.Callers.{same_kind}
 use Rattle.script_types.specs.inside.Sound.{Checked, are_allowed, checked, checked_level, has_kinds, is_cell, is_sound}
@@ -27,6 +27,9 @@ unfolding checked meaning_of
 node-kind (Tree-F.Number k c) = ap (λ (m : Checked). m.kind) (fold-roll-Tree Checked checked_level (Tree-F.Number k c)) ∙ sym (ap (λ (m : TreeMeaning). m.kind) (fold-roll-Tree TreeMeaning meaning_level (Tree-F.Number k c)))
 node-kind (Tree-F.Input k n) = ap (λ (m : Checked). m.kind) (fold-roll-Tree Checked checked_level (Tree-F.Input k n)) ∙ sym (ap (λ (m : TreeMeaning). m.kind) (fold-roll-Tree TreeMeaning meaning_level (Tree-F.Input k n)))
 node-kind (Tree-F.Name k name) = ap (λ (m : Checked). m.kind) (fold-roll-Tree Checked checked_level (Tree-F.Name k name)) ∙ sym (ap (λ (m : TreeMeaning). m.kind) (fold-roll-Tree TreeMeaning meaning_level (Tree-F.Name k name)))
+node-kind Tree-F.Time = ap (λ (m : Checked). m.kind) (fold-roll-Tree Checked checked_level Tree-F.Time) ∙ sym (ap (λ (m : TreeMeaning). m.kind) (fold-roll-Tree TreeMeaning meaning_level Tree-F.Time))
+node-kind (Tree-F.Stack k n) = ap (λ (m : Checked). m.kind) (fold-roll-Tree Checked checked_level (Tree-F.Stack k n)) ∙ sym (ap (λ (m : TreeMeaning). m.kind) (fold-roll-Tree TreeMeaning meaning_level (Tree-F.Stack k n)))
+node-kind (Tree-F.LookUp k o file args) = ap (λ (m : Checked). m.kind) (fold-roll-Tree Checked checked_level (Tree-F.LookUp k o file args)) ∙ sym (ap (λ (m : TreeMeaning). m.kind) (fold-roll-Tree TreeMeaning meaning_level (Tree-F.LookUp k o file args)))
 node-kind (Tree-F.Call k o args) = ap (λ (m : Checked). m.kind) (fold-roll-Tree Checked checked_level (Tree-F.Call k o args)) ∙ sym (ap (λ (m : TreeMeaning). m.kind) (fold-roll-Tree TreeMeaning meaning_level (Tree-F.Call k o args)))
 
 -- both name the kind of an expression
@@ -41,7 +44,7 @@ all-sound : (ts : List Tree) → list_all (λ (c : Checked). c.sound) (map check
 all-sound [] = refl
 all-sound (t ∷ ts) = ap (λ b. is_sound t && b) (all-sound ts)
 
--- whether a number, an input, a name or a call keeps to the table
+-- whether a number, the step, an input, a stack, a name, a call or a look-up keeps to the table
 pub sound-number : (k : Kind) (c : Cell) → is_sound (tree.Number k c) ≡ is_cell k c
 unfolding checked
 sound-number k c = ap is_sound (sym (tree.rolls-Number k c)) ∙ ap (λ (m : Checked). m.sound) (fold-roll-Tree Checked checked_level (Tree-F.Number k c))
@@ -50,6 +53,14 @@ pub sound-input : (k : Kind) (n : ℕ) → is_sound (tree.Input k n) ≡ true
 unfolding checked
 sound-input k n = ap is_sound (sym (tree.rolls-Input k n)) ∙ ap (λ (m : Checked). m.sound) (fold-roll-Tree Checked checked_level (Tree-F.Input k n))
 
+pub sound-time : is_sound tree.Time ≡ true
+unfolding checked
+sound-time = ap is_sound (sym tree.rolls-Time) ∙ ap (λ (m : Checked). m.sound) (fold-roll-Tree Checked checked_level Tree-F.Time)
+
+pub sound-stack : (k : Kind) (n : ℕ) → is_sound (tree.Stack k n) ≡ true
+unfolding checked
+sound-stack k n = ap is_sound (sym (tree.rolls-Stack k n)) ∙ ap (λ (m : Checked). m.sound) (fold-roll-Tree Checked checked_level (Tree-F.Stack k n))
+
 pub sound-name : (k : Kind) (name : List ℕ) → is_sound (tree.Name k name) ≡ true
 unfolding checked
 sound-name k name = ap is_sound (sym (tree.rolls-Name k name)) ∙ ap (λ (m : Checked). m.sound) (fold-roll-Tree Checked checked_level (Tree-F.Name k name))
@@ -57,6 +68,10 @@ sound-name k name = ap is_sound (sym (tree.rolls-Name k name)) ∙ ap (λ (m : C
 pub sound-call : (k : Kind) (o : Op) (args : List Tree) → is_sound (tree.Call k o args) ≡ (list_all is_sound args && has_kinds (row_of o) (map kind-of args) k)
 unfolding checked
 sound-call k o args = ap is_sound (sym (tree.rolls-Call k o args)) ∙ ap (λ (m : Checked). m.sound) (fold-roll-Tree Checked checked_level (Tree-F.Call k o args)) ∙ ap (λ b. b && has_kinds (row_of o) (map (λ (c : Checked). c.kind) (map checked args)) k) (all-sound args) ∙ ap (λ ks. list_all is_sound args && has_kinds (row_of o) ks k) (checked-kinds args)
+
+pub sound-look-up : (k : Kind) (o : Op) (file : ℕ) (args : List Tree) → is_sound (tree.LookUp k o file args) ≡ (list_all is_sound args && has_kinds (map_row (row_of o)) (map kind-of args) k)
+unfolding checked
+sound-look-up k o file args = ap is_sound (sym (tree.rolls-LookUp k o file args)) ∙ ap (λ (m : Checked). m.sound) (fold-roll-Tree Checked checked_level (Tree-F.LookUp k o file args)) ∙ ap (λ b. b && has_kinds (map_row (row_of o)) (map (λ (c : Checked). c.kind) (map checked args)) k) (all-sound args) ∙ ap (λ ks. list_all is_sound args && has_kinds (map_row (row_of o)) ks k) (checked-kinds args)
 
 -- ---- kinds of a row
 

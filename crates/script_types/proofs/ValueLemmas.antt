@@ -1,8 +1,7 @@
 -- The value of operations beside that of expressions: what a program's operation gives is what the tree's gives.
-use Rattle.std.proofs.Common.{◌≡◌, ℕ, zero, suc, ◌+◌, ◌<◌, ◌≤◌, List, [], ◌∷◌, ◌++◌, length, map, refl, sym, ap, cond, ◌∙◌, Ok, Err, Result, arith, append_assoc, append-nil, slice_index_or}
-use Rattle.std.specs.Prelude.{◌==◌, Option, None, Some}
+use Rattle.std.proofs.Common.{◌≡◌, ℕ, zero, suc, ◌+◌, ◌<◌, ◌≤◌, List, [], ◌∷◌, ◌++◌, length, map, refl, sym, ap, ◌∙◌, Ok, Err, Result, arith, slice_index_or}
+use Rattle.std.specs.Prelude.{Option, None, Some}
 use Rattle.std.specs.List.{filter_map, cons_option}
-use Rattle.std.proofs.lemmas.List.{get_or_append_left}
 use Rattle.text_base.specs.Results.{◌>>=◌}
 use Rattle.cell_values.specs.declared.kind.Kind.{Kind}
 use Rattle.tile_map.specs.declared.part.Part.{Part}
@@ -15,15 +14,14 @@ use Rattle.map_meaning.specs.declared.program.Operand.TheVariants.{Unused, Liter
 use Rattle.map_meaning.specs.declared.program.Operand.TheVariants as from
 use Rattle.map_meaning.specs.declared.program.Operation.{Operation}
 use Rattle.map_meaning.specs.declared.program.Program.{Program}
-use Rattle.map_meaning.specs.Evaluation.{Done, operand_cell, operation_part, operation_value, operation_values}
-use Rattle.map_meaning.specs.Maps.{CellAt, WholeMap, nth, step_cell}
+use Rattle.map_meaning.specs.Evaluation.{Done, operand_cell, operand_map, operation_part, operation_value}
+use Rattle.map_meaning.specs.Maps.{CellAt, WholeMap, step_cell}
 use Rattle.map_meaning.specs.Overs.{whole_or_over}
 use Rattle.map_meaning.specs.Programs.{kinds_of, operands_of}
 use Rattle.map_meaning.specs.Rules.{Rule, Local, Setting, by_rule, operand_at, outcome_of, rule_of}
-use Rattle.map_meaning.specs.Scenes.{Scene, place_count, setting_at, setting_in}
-use Rattle.map_meaning.specs.Spans.{whole_span}
-use Rattle.map_meaning.specs.Trees.{Environment, Site, TreeMeaning, applied, operations_in, values_from_left}
-use Rattle.script_types.specs.inside.Values.{initially, HasOperands, NamesBefore, operand_map}
+use Rattle.map_meaning.specs.Scenes.{Scene, place_count, setting_at}
+use Rattle.map_meaning.specs.Trees.{Environment, Site, TreeMeaning, applied_in, operations_in, values_from_left}
+use Rattle.script_types.specs.inside.Values.{HasOperands}
 
 -- ---- parts
 
@@ -48,41 +46,38 @@ part_of-same f g n h =
 -- ---- one operation
 
 -- the cell of an operand's map
-pub cell_at-operand_map : (scene : Scene) (maps : List WholeMap) (x : Operand) (place : ℕ) → place < place_count scene → cell_at (operand_map scene maps x) place ≡ operand_cell scene (initially maps) x place
-cell_at-operand_map scene maps Unused place below = refl
-cell_at-operand_map scene maps (Literal kind cell) place below = (is_part-part_of (λ p. Ok cell) (place_count scene)).cells place below
-cell_at-operand_map scene maps Time place below = (is_part-part_of (λ p. Ok (step_cell scene.step)) (place_count scene)).cells place below
-cell_at-operand_map scene maps (Input n) place below = refl
-cell_at-operand_map scene maps (from.Stack n) place below = refl
-cell_at-operand_map scene maps (Initial n) place below = refl
-cell_at-operand_map scene maps (Now n) place below = refl
-cell_at-operand_map scene maps (Last d n) place below = refl
+pub cell_at-operand_map : (scene : Scene) (done : Done) (x : Operand) (place : ℕ) → place < place_count scene → cell_at (operand_map scene done x) place ≡ operand_cell scene done x place
+cell_at-operand_map scene done Unused place below = refl
+cell_at-operand_map scene done (Literal kind cell) place below = (is_part-part_of (λ p. Ok cell) (place_count scene)).cells place below
+cell_at-operand_map scene done Time place below = (is_part-part_of (λ p. Ok (step_cell scene.step)) (place_count scene)).cells place below
+cell_at-operand_map scene done (Input n) place below = refl
+cell_at-operand_map scene done (from.Stack n) place below = refl
+cell_at-operand_map scene done (Initial n) place below = refl
+cell_at-operand_map scene done (Now n) place below = refl
+cell_at-operand_map scene done (Last d n) place below = refl
 
 -- the operand at a place of a list
-slot : (scene : Scene) (maps : List WholeMap) (xs : List Operand) (i place : ℕ) → place < place_count scene → operand_at (map cell_at (map (operand_map scene maps) xs)) i place ≡ operand_cell scene (initially maps) (slice_index_or xs i Unused) place
-slot scene maps [] i place below = refl
-slot scene maps (x ∷ xs) zero place below = cell_at-operand_map scene maps x place below
-slot scene maps (x ∷ xs) (suc i) place below = slot scene maps xs i place below
+slot : (scene : Scene) (done : Done) (xs : List Operand) (i place : ℕ) → place < place_count scene → operand_at (map cell_at (map (operand_map scene done) xs)) i place ≡ operand_cell scene done (slice_index_or xs i Unused) place
+slot scene done [] i place below = refl
+slot scene done (x ∷ xs) zero place below = cell_at-operand_map scene done x place below
+slot scene done (x ∷ xs) (suc i) place below = slot scene done xs i place below
 
 -- a rule looks at the first four operands alone
 by_rule-same : (r : Rule) (s : Setting) (xs ys : List CellAt) (place : ℕ) → operand_at xs 0 place ≡ operand_at ys 0 place → operand_at xs 1 place ≡ operand_at ys 1 place → operand_at xs 2 place ≡ operand_at ys 2 place → operand_at xs 3 place ≡ operand_at ys 3 place → by_rule r s xs place ≡ by_rule r s ys place
 by_rule-same (Local f) s xs ys place a b c d = cc
 
 -- the program's operation gives what the tree's gives
-pub applied-is : (program : Program) (scene : Scene) (names : Environment) (maps : List WholeMap) (o : Operation) (kinds : List Kind) (xs : List Operand) → HasOperands o xs → kinds_of program o ≡ kinds → applied (record { scene = scene; names = names; statement = o.statement }) o.op kinds (map (operand_map scene maps) xs) o.number ≡ operation_value program scene (initially maps) o
+pub applied-is : (program : Program) (scene : Scene) (names : Environment) (done : Done) (o : Operation) (file : ℕ) (kinds : List Kind) (xs : List Operand) → HasOperands o file xs → kinds_of program o ≡ kinds → applied_in (record { scene = scene; names = names; statement = o.statement }) o.op (setting_at scene file kinds) (map (operand_map scene done) xs) o.number ≡ operation_value program scene done o
 unfolding operation_part
-applied-is program scene names maps o kinds xs has hk =
-    ap (whole_or_over scene o.statement o.number) (part_of-same (outcome_of o.op (setting_in scene kinds) (map cell_at (map (operand_map scene maps) xs))) (outcome_of o.op (setting_at scene o.file (kinds_of program o)) (map (operand_cell scene done) (operands_of o))) (place_count scene) (λ place below.
-    ap (λ ks. by_rule (rule_of o.op) (setting_in scene ks) (map cell_at (map (operand_map scene maps) xs)) place) (sym hk)
-    ∙ ap (λ f. by_rule (rule_of o.op) (setting_at scene f (kinds_of program o)) (map cell_at (map (operand_map scene maps) xs)) place) (sym has.file)
-    ∙ by_rule-same (rule_of o.op) (setting_at scene o.file (kinds_of program o)) (map cell_at (map (operand_map scene maps) xs)) (map (operand_cell scene done) (operands_of o)) place
-    (slot scene maps xs 0 place below ∙ ap (λ x. operand_cell scene done x place) (sym has.a))
-    (slot scene maps xs 1 place below ∙ ap (λ x. operand_cell scene done x place) (sym has.b))
-    (slot scene maps xs 2 place below ∙ ap (λ x. operand_cell scene done x place) (sym has.c))
-    (slot scene maps xs 3 place below ∙ ap (λ x. operand_cell scene done x place) (sym has.d))))
-  where
-    done : Done
-    done = initially maps
+applied-is program scene names done o file kinds xs has hk =
+    ap (whole_or_over scene o.statement o.number) (part_of-same (outcome_of o.op (setting_at scene file kinds) (map cell_at (map (operand_map scene done) xs))) (outcome_of o.op (setting_at scene o.file (kinds_of program o)) (map (operand_cell scene done) (operands_of o))) (place_count scene) (λ place below.
+    ap (λ ks. by_rule (rule_of o.op) (setting_at scene file ks) (map cell_at (map (operand_map scene done) xs)) place) (sym hk)
+    ∙ ap (λ f. by_rule (rule_of o.op) (setting_at scene f (kinds_of program o)) (map cell_at (map (operand_map scene done) xs)) place) (sym has.file_is)
+    ∙ by_rule-same (rule_of o.op) (setting_at scene o.file (kinds_of program o)) (map cell_at (map (operand_map scene done) xs)) (map (operand_cell scene done) (operands_of o)) place
+    (slot scene done xs 0 place below ∙ ap (λ x. operand_cell scene done x place) (sym has.a))
+    (slot scene done xs 1 place below ∙ ap (λ x. operand_cell scene done x place) (sym has.b))
+    (slot scene done xs 2 place below ∙ ap (λ x. operand_cell scene done x place) (sym has.c))
+    (slot scene done xs 3 place below ∙ ap (λ x. operand_cell scene done x place) (sym has.d))))
 
 -- ---- kinds
 
@@ -115,40 +110,7 @@ kinds-four f (x ∷ y ∷ z ∷ []) (k ∷ j ∷ i ∷ m ∷ ks) hu h l = cc
 kinds-four f (x ∷ y ∷ z ∷ w ∷ xs) (k ∷ j ∷ i ∷ []) hu h l = cc
 kinds-four f (x ∷ y ∷ z ∷ w ∷ []) (k ∷ j ∷ i ∷ m ∷ n ∷ ks) hu h l = cc
 
--- ---- lists of operations and of operands
-
--- operations that are done add a map each, and keep those that were done
-pub record Adds (maps : List WholeMap) (ops : List Operation) (after : Done) : Type 0 where
-  pub added : List WholeMap
-  pub appended : after.initial ≡ maps ++ added
-  pub count : length added ≡ length ops
-  pub alone : after ≡ initially after.initial
-
-pub values-add : (program : Program) (scene : Scene) (ops : List Operation) (maps : List WholeMap) (after : Done) → operation_values program scene (whole_span program) (initially maps) ops ≡ Ok after → Adds maps ops after
-values-add program scene [] maps after h =
-    let same : after ≡ initially maps = cc in
-    record {
-      added = [];
-      appended = ap (λ (d : Done). d.initial) same ∙ sym (append-nil maps);
-      count = refl;
-      alone = same ∙ sym (ap (λ (d : Done). initially d.initial) same);
-    }
-values-add program scene (o ∷ more) maps after h = add-step (operation_value program scene (initially maps) o) h (λ m. values-add program scene more (maps ++ m ∷ []) after)
-  where
-    add-step : (r : Result WholeMap OverAt) → (r >>= λ m. operation_values program scene (whole_span program) (initially (maps ++ m ∷ [])) more) ≡ Ok after → ((m : WholeMap) → operation_values program scene (whole_span program) (initially (maps ++ m ∷ [])) more ≡ Ok after → Adds (maps ++ m ∷ []) more after) → Adds maps (o ∷ more) after
-    add-step (Ok m) h ih = let a = ih m h in record { added = m ∷ a.added; appended = a.appended ∙ append_assoc maps (m ∷ []) a.added; count = (let c : length a.added ≡ length more = a.count in omega arith); alone = a.alone }
-    add-step (Err e) h ih = cc
-
--- an operand keeps its map
-pub operand-stays : (scene : Scene) (maps added : List WholeMap) (x : Operand) → NamesBefore (length maps) x → operand_map scene (maps ++ added) x ≡ operand_map scene maps x
-operand-stays scene maps added Unused h = refl
-operand-stays scene maps added (Literal kind cell) h = refl
-operand-stays scene maps added Time h = refl
-operand-stays scene maps added (Input n) h = refl
-operand-stays scene maps added (from.Stack n) h = refl
-operand-stays scene maps added (Initial n) h = get_or_append_left maps added [] n h
-operand-stays scene maps added (Now n) h = refl
-operand-stays scene maps added (Last d n) h = ap (λ m. cond (scene.step == 1) m (nth [] d)) (get_or_append_left maps added [] n h)
+-- ---- lists of operands
 
 -- the values of operands and of one more
 pub values-push : (ms : List TreeMeaning) (m : TreeMeaning) (at : Site) (before : ℕ) → values_from_left (ms ++ m ∷ []) at before ≡ values_from_left ms at before >>= λ vs. m.value at (before + operations_in ms) >>= λ v. Ok (vs ++ v ∷ [])

@@ -1,25 +1,27 @@
 -- What lowering a script answers.
-use Rattle.std.specs.Prelude.{◌≡◌, true, false, List, [], map, Result, Ok, Err, ⊤}
+use Rattle.std.specs.Prelude.{◌≡◌, true, false, List, map, Result, Ok, Err, ⊤}
 use Rattle.script_syntax.specs.declared.tree.Script.{Script}
 use Rattle.map_meaning.specs.declared.program.Program.{Program}
 use Rattle.map_meaning.specs.Programs.{IsWellFormed}
 use Rattle.script_types.specs.declared.end.LowerEnd.{LowerEnd}
 use Rattle.script_types.specs.declared.end.LowerEnd.TheVariants.{Meaning, Unbuilt, Memory}
 use Rattle.script_types.specs.declared.typed.Line.{Line}
-use Rattle.script_types.specs.Lowered.{area_number, inputs_of, as_listed, operations_from, outputs_from}
+use Rattle.script_types.specs.declared.typed.Section.TheVariants.{Initial, Dynamic}
+use Rattle.script_types.specs.Lowered.{area_number, inputs_of, as_listed, as_shown, outputs_from, section_operations}
 use Rattle.script_types.specs.Meaning.{meaning}
 use Rattle.script_types.specs.Names.{binding_of}
 use Rattle.script_types.specs.Unbuilt.{is_unbuilt}
 use Rattle.script_types.specs.Values.{HasValues}
 
 -- The program is that of the settled statements of a script: its inputs, its area map, one operation for each of theirs in
--- post-order with its kind, its statement and its number, its outputs, and the last step.
+-- post-order with its kind, its statement and its number, its outputs, and the last step. What the operations compute and the
+-- outputs write is told by their values.
 pub record IsProgramOf (script : Script) (lines : List Line) (program : Program) : Type 0 where
   pub inputs : program.inputs ≡ inputs_of script
   pub area : program.area ≡ area_number script
-  pub dynamic : program.dynamic ≡ []
-  pub operations : map as_listed program.initial ≡ operations_from 1 lines
-  pub outputs : program.outputs ≡ outputs_from (binding_of script) 1 0 lines
+  pub operations : map as_listed program.initial ≡ section_operations Initial lines
+  pub step_operations : map as_listed program.dynamic ≡ section_operations Dynamic lines
+  pub outputs : map as_shown program.outputs ≡ outputs_from (binding_of script) 1 lines
   pub steps : program.steps ≡ script.steps
 
 -- The program of a script that is built and has no fault: it is that of its settled statements, has their values, and is

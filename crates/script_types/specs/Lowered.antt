@@ -1,5 +1,5 @@
 -- The program of a script: its inputs, its operations in post-order, its outputs.
-use Rattle.std.specs.Prelude.{ℕ, ◌+◌, ◌-◌, List, [], ◌∷◌, ◌++◌, map, if◌then◌else◌}
+use Rattle.std.specs.Prelude.{ℕ, ◌+◌, List, [], ◌∷◌, ◌++◌, filter, length, map, Option, Some, None, if◌then◌else◌}
 use Rattle.std.specs.Option.{unwrap_or}
 use Rattle.cell_values.specs.declared.kind.Kind.{Kind}
 use Rattle.cell_values.specs.declared.kind.Kind.TheVariants.{Scalar}
@@ -7,19 +7,24 @@ use Rattle.script_syntax.specs.declared.tree.Binding.{Binding}
 use Rattle.script_syntax.specs.declared.tree.Script.{Script}
 use Rattle.map_meaning.specs.declared.op.Op.{Op}
 use Rattle.map_meaning.specs.declared.program.InputUse.{InputUse}
-use Rattle.map_meaning.specs.declared.program.Operand.TheVariants.{Initial}
 use Rattle.map_meaning.specs.declared.program.Operation.{Operation}
-use Rattle.map_meaning.specs.declared.program.OutputKind.TheVariants.{InitialGrid}
+use Rattle.map_meaning.specs.declared.program.OutputKind.{OutputKind}
+use Rattle.map_meaning.specs.declared.program.OutputKind.TheVariants.{InitialGrid, StackGrid, Sample}
 use Rattle.map_meaning.specs.declared.program.OutputUse.{OutputUse}
-use Rattle.map_meaning.specs.declared.program.Role.TheVariants.{Grid}
+use Rattle.map_meaning.specs.declared.program.Role.{Role}
+use Rattle.map_meaning.specs.declared.program.Role.TheVariants.{Grid, Stack, Table, Series}
 use Rattle.map_meaning.specs.declared.tree.Statement.{Statement}
 use Rattle.map_meaning.specs.declared.tree.Tree.{Tree}
 use Rattle.map_meaning.specs.declared.tree.Tree.TheFolds.{fold-Tree}
 use Rattle.map_meaning.specs.declared.tree.Tree.TheOpen.{Tree-F}
 use Rattle.script_types.specs.declared.typed.Line.{Line}
+use Rattle.script_types.specs.declared.typed.Section.{Section}
+use Rattle.script_types.specs.declared.typed.Section.TheVariants.{Initial, Dynamic}
+use Rattle.script_types.specs.declared.typed.UsedAs.{UsedAs}
+use Rattle.script_types.specs.declared.typed.UsedAs.TheVariants as used
 use Rattle.script_types.specs.Names.{binding_of, input_number, joined_lists, target_file, used_inputs}
-use Rattle.script_types.specs.Statements.{operations_of}
-use Rattle.script_types.specs.Reports.{Bound, area_files, file_written}
+use Rattle.script_types.specs.Statements.{is_in, operations_of}
+use Rattle.script_types.specs.Reports.{Bound, area_files, file_written, role_by}
 
 -- ---- inputs
 
@@ -27,15 +32,34 @@ use Rattle.script_types.specs.Reports.{Bound, area_files, file_written}
 abbrev pub grid_input : List ℕ → Kind → InputUse
 grid_input file kind = record { file = file; role = Grid; kind = kind }
 
--- the input of a binding: a scalar map where it has no kind
-abbrev pub input_of : Binding → InputUse
-input_of b = grid_input (target_file b.target b.name) (unwrap_or b.kind Scalar)
+-- the role of an input that is used so
+abbrev pub input_role : UsedAs → Role
+input_role used.Grid = Grid
+input_role used.Stack = Stack
+input_role (used.Table keys kind) = Table keys
+input_role (used.Series kind) = Series
+
+-- The kind of an input that is used so, and whose binding gives this kind: for tables and series the one that their use asks,
+-- and scalar where there is none.
+abbrev pub used_kind : UsedAs → Option Kind → Kind
+used_kind (used.Table keys kind) given = kind
+used_kind (used.Series kind) given = kind
+used_kind _ given = unwrap_or given Scalar
+
+-- the input of a binding that is used so
+abbrev pub input_as_used : UsedAs → Binding → InputUse
+input_as_used role b = record { file = target_file b.target b.name; role = input_role role; kind = used_kind role b.kind }
+
+-- the input of a binding
+abbrev pub input_of : Script → Binding → InputUse
+input_of script b = input_as_used (role_by script b) b
 
 -- The inputs of a script: the area map, a scalar map, where it is a file and no binding, and then the inputs that are used,
 -- in the order of the section `binding`.
 abbrev pub inputs_of : Script → List InputUse
 inputs_of script =
-    map (λ file. grid_input file Scalar) (area_files (binding_of script script.area) script.area) ++ map input_of (used_inputs script)
+    map (λ file. grid_input file Scalar) (area_files (binding_of script script.area) script.area) ++
+    map (input_of script) (used_inputs script)
 
 -- the number of the area map among the inputs: the first, where it is a file and no binding
 abbrev pub area_number : Script → ℕ
@@ -59,9 +83,12 @@ pub record Unnumbered : Type 0 where
 -- the operations of an expression in post-order, from those of its operands
 abbrev pub post_order_level : Tree-F (List Unnumbered) → List Unnumbered
 post_order_level (Tree-F.Number kind cell) = []
+post_order_level Tree-F.Time = []
+post_order_level (Tree-F.Stack kind number) = []
 post_order_level (Tree-F.Input kind number) = []
 post_order_level (Tree-F.Name kind name) = []
 post_order_level (Tree-F.Call kind op operands) = joined_lists operands ++ record { op = op; kind = kind } ∷ []
+post_order_level (Tree-F.LookUp kind op file operands) = joined_lists operands ++ record { op = op; kind = kind } ∷ []
 
 -- the operations of an expression in post-order: those of the operands from the left, then its own
 unfoldable pub post_order : Tree → List Unnumbered
@@ -89,26 +116,48 @@ total_operations (l ∷ ls) = operations_of l.statement.value + total_operations
 
 -- ---- outputs
 
--- the output of a statement with this number, where it reports: the map of the last of so many operations
-abbrev pub output_of : Bound → ℕ → ℕ → Line → List OutputUse
-output_of bound statement below l =
-    if l.report then
-    record {
-      file = file_written bound l;
-      kind = InitialGrid;
-      value = Initial (below - 1);
-      cell_kind = l.kind;
-      statement =
-          statement;
-    } ∷ [] else []
+-- what a statement of this section is written as: a time series where it is sampled, else a grid or a stack
+abbrev pub form_by : Section → Option ℕ → OutputKind
+form_by section (Some ids) = Sample ids
+form_by Initial None = InitialGrid
+form_by Dynamic None = StackGrid
 
--- The outputs of some statements, of which the first has this number and stands below so many operations: the map of the
--- last operation of each statement that reports.
-abbrev pub outputs_from : Bound → ℕ → ℕ → List Line → List OutputUse
-outputs_from bound statement before [] = []
-outputs_from bound statement before (l ∷ ls) =
-    output_of bound statement (before + operations_of l.statement.value) l ++
-    outputs_from bound (statement + 1) (before + operations_of l.statement.value) ls
+-- what an output shows of itself beside its value
+pub record Shown : Type 0 where
+  pub file : List ℕ
+  pub form : OutputKind
+  pub kind : Kind
+  pub statement : ℕ
+
+-- the output of a statement with this number, where it reports
+abbrev pub output_of : Bound → ℕ → Line → List Shown
+output_of bound statement l =
+    if l.report then record { file = file_written bound l; form = form_by l.section l.sample; kind = l.kind; statement = statement } ∷ []
+    else []
+
+-- the outputs of some statements, of which the first has this number: one for each that reports
+abbrev pub outputs_from : Bound → ℕ → List Line → List Shown
+outputs_from bound statement [] = []
+outputs_from bound statement (l ∷ ls) = output_of bound statement l ++ outputs_from bound (statement + 1) ls
+
+-- what a program's output shows of itself
+abbrev pub as_shown : OutputUse → Shown
+as_shown output = record { file = output.file; form = output.kind; kind = output.cell_kind; statement = output.statement }
+
+-- ---- sections
+
+-- the statements of a section
+abbrev pub lines_in : Section → List Line → List Line
+lines_in section lines = filter (λ l. is_in section l.section) lines
+
+-- the number of the first statement of a section
+abbrev pub first_statement : Section → List Line → ℕ
+first_statement Initial lines = 1
+first_statement Dynamic lines = length (lines_in Initial lines) + 1
+
+-- the operations of a section
+abbrev pub section_operations : Section → List Line → List Listed
+section_operations section lines = operations_from (first_statement section lines) (lines_in section lines)
 
 -- the settled statements of some lines
 abbrev pub statements_of : List Line → List Statement

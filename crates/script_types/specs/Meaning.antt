@@ -46,4 +46,4 @@ meaning script =
     passed (binding_checks [] script.bindings) script >>= λ s.
     passed (area_checks (binding_of s s.area) (is_assigned s s.area)) s >>= λ t.
     all_lines t >>= λ lines.
-    passed (report_checks (binding_of t) (files_read t) 0 lines) lines
+    passed (report_checks t.steps (binding_of t) (files_read t) 0 lines) lines

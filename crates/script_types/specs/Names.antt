@@ -1,6 +1,6 @@
 -- The names of a script: bound, assigned, used in a role.
 use Rattle.std.specs.Prelude.{ℕ, ◌+◌, ◌-◌, ◌^◌, ◌==◌, ◌&&◌, ◌||◌, Bool, true, false, not, List}
-use Rattle.std.specs.Prelude.{[], ◌∷◌, ◌++◌, length, filter, Option, Some, None, nat_le, nat_lt, slice_get, if◌then◌else◌}
+use Rattle.std.specs.Prelude.{[], ◌∷◌, ◌++◌, length, filter, take, Option, Some, None, nat_le, nat_lt, slice_get, if◌then◌else◌}
 use Rattle.std.specs.Option.{is_some}
 use Rattle.std.specs.List.{list_any}
 use Rattle.std.specs.Str.{bytes_eq}
@@ -13,12 +13,15 @@ use Rattle.script_syntax.specs.declared.tree.Script.{Script}
 use Rattle.script_syntax.specs.declared.tree.Expr.{Expr}
 use Rattle.script_syntax.specs.declared.tree.Expr.TheFolds.{fold-Expr}
 use Rattle.script_syntax.specs.declared.tree.Expr.TheOpen.{Expr-F}
+use Rattle.script_syntax.specs.declared.tree.Expr.TheVariants as expr
 use Rattle.map_meaning.specs.declared.row.Ask.{Ask}
 use Rattle.map_meaning.specs.declared.row.Ask.TheVariants as ask
+use Rattle.map_meaning.specs.declared.row.Stands.{Stands}
+use Rattle.map_meaning.specs.declared.row.Stands.TheVariants as stands
 use Rattle.map_meaning.specs.Table.{is_kind}
 use Rattle.script_types.specs.declared.typed.UsedAs.{UsedAs}
 use Rattle.script_types.specs.declared.typed.UsedAs.TheVariants as used
-use Rattle.script_types.specs.Table.{word_row, first_ask}
+use Rattle.script_types.specs.Table.{word_row, first_ask, stands_of}
 
 -- ---- bound and assigned
 
@@ -43,6 +46,24 @@ is_assigned_in statements name = list_any (λ s. bytes_eq name s.name) statement
 -- some statement of the script assigns the name
 abbrev pub is_assigned : Script → List ℕ → Bool
 is_assigned script name = is_assigned_in script.initial name || is_assigned_in script.dynamic name
+
+-- a word with this place is that of a time series
+abbrev pub is_sample_word : Stands → Bool
+is_sample_word stands.Sample = true
+is_sample_word _ = false
+
+-- the right side is a time series
+abbrev pub is_sample : Expr → Bool
+is_sample (expr.Call' word shape operands) = is_sample_word (stands_of (word_row word))
+is_sample _ = false
+
+-- the name is the target of a time series
+abbrev pub is_sampled_in : List Statement → List ℕ → Bool
+is_sampled_in statements name = list_any (λ s. bytes_eq name s.name && is_sample s.expr) statements
+
+-- some statement of the script has the name as the target of a time series
+abbrev pub is_sampled : Script → List ℕ → Bool
+is_sampled script name = is_sampled_in script.initial name || is_sampled_in script.dynamic name
 
 -- what is bound is a number
 abbrev pub is_number_target : Target → Bool
@@ -118,6 +139,30 @@ statements_uses (s ∷ ss) = uses s.expr used.Grid ++ statements_uses ss
 -- the uses of names in a script, in the order of their places; the area map comes first
 abbrev pub script_uses : Script → List Use
 script_uses script = record { name = script.area; role = used.Grid } ∷ statements_uses script.initial ++ statements_uses script.dynamic
+
+-- the uses of names down to the statement with this number: those of the area map and of so many statements
+abbrev pub uses_down_to : Script → ℕ → List Use
+uses_down_to script n =
+    record { name = script.area; role = used.Grid } ∷ statements_uses (take n (script.initial ++ script.dynamic))
+
+-- a name stands here for a stack
+abbrev pub is_stack : UsedAs → Bool
+is_stack used.Stack = true
+is_stack _ = false
+
+-- some use is one of the name
+abbrev pub is_used_in : List Use → List ℕ → Bool
+is_used_in uses name = list_any (λ u. bytes_eq name u.name) uses
+
+-- how many names are first used as a stack in some uses that stand below others
+abbrev pub stacks_below : List Use → List Use → ℕ
+stacks_below above [] = 0
+stacks_below above (u ∷ us) =
+    (if is_stack u.role && not (is_used_in above u.name) then 1 else 0) + stacks_below (above ++ u ∷ []) us
+
+-- how many names are used as a stack down to the statement with this number
+abbrev pub stacks_down_to : Script → ℕ → ℕ
+stacks_down_to script n = stacks_below [] (uses_down_to script n)
 
 -- the role of a name: that of its first use
 abbrev pub role_of : List Use → List ℕ → Option UsedAs

@@ -1,7 +1,7 @@
 -- The settled statements of a script, or the first fault of a statement.
 use Rattle.std.specs.Prelude.{ℕ, ◌+◌, Bool, true, false, not, ◌||◌, ◌&&◌, List, []}
-use Rattle.std.specs.Prelude.{◌∷◌, ◌++◌, length, Option, Some, None, Result, Ok, Err, nat_lt, if◌then◌else◌}
-use Rattle.std.specs.Option.{unwrap_or}
+use Rattle.std.specs.Prelude.{◌∷◌, ◌++◌, length, Option, Some, None, Result, Ok, Err, nat_le, nat_lt, if◌then◌else◌}
+use Rattle.std.specs.Option.{is_some, unwrap_or}
 use Rattle.std.specs.List.{sum_by}
 use Rattle.std.specs.Str.{bytes_eq}
 use Rattle.text_base.specs.Results.{◌>>=◌}
@@ -10,14 +10,10 @@ use Rattle.cell_values.specs.declared.kind.Kind.TheVariants.{Scalar, Ldd}
 use Rattle.script_syntax.specs.declared.tree.Binding.{Binding}
 use Rattle.script_syntax.specs.declared.tree.Statement.{Statement}
 use Rattle.script_syntax.specs.declared.tree.Script.{Script}
-use Rattle.script_syntax.specs.declared.tree.Expr.{Expr}
-use Rattle.script_syntax.specs.declared.tree.Expr.TheVariants as expr
 use Rattle.map_meaning.specs.declared.op.Op.TheVariants.{CopyOf}
-use Rattle.map_meaning.specs.declared.row.Stands.{Stands}
-use Rattle.map_meaning.specs.declared.row.Stands.TheVariants as stands
 use Rattle.map_meaning.specs.declared.tree.Tree.{Tree}
 use Rattle.map_meaning.specs.declared.tree.Tree.TheVariants as tree
-use Rattle.map_meaning.specs.Limits.{most_operations}
+use Rattle.map_meaning.specs.Limits.{most_operations, most_stacks}
 use Rattle.map_meaning.specs.Table.{is_kind}
 use Rattle.map_meaning.specs.Trees.{meaning_of}
 use Rattle.script_types.specs.declared.fault.MeaningKind.{MeaningKind}
@@ -28,15 +24,28 @@ use Rattle.script_types.specs.declared.fault.Place.TheVariants as place
 use Rattle.script_types.specs.declared.typed.Section.{Section}
 use Rattle.script_types.specs.declared.typed.Section.TheVariants.{Initial, Dynamic}
 use Rattle.script_types.specs.declared.typed.Line.{Line}
+use Rattle.script_types.specs.declared.typed.Side.{Side}
 use Rattle.script_types.specs.declared.typed.Value.{Value}
 use Rattle.script_types.specs.declared.typed.Typed.{Typed}
 use Rattle.script_types.specs.declared.typed.Typed.TheVariants as typed
 use Rattle.script_types.specs.declared.typed.UsedAs.TheVariants as used
 use Rattle.script_types.specs.Checks.{passed}
-use Rattle.script_types.specs.Table.{word_row, stands_of}
 use Rattle.script_types.specs.Names.{binding_of, file_by, input_number, is_assigned}
-use Rattle.script_types.specs.Names.{is_bad_prefix, is_bound_to_number, role_of, script_uses}
+use Rattle.script_types.specs.Names.{is_bad_prefix, is_bound_to_number, is_sampled, role_of, script_uses, stacks_down_to}
 use Rattle.script_types.specs.Typing.{Scope, typed_as, number_as, or_kind}
+
+-- the section is `dynamic`
+abbrev pub is_dynamic : Section → Bool
+is_dynamic Initial = false
+is_dynamic Dynamic = true
+
+-- a statement of this section that reports writes a stack, unless it writes a time series
+abbrev pub is_stack_report : Section → Bool → Bool → Bool
+is_stack_report section report sampled = is_dynamic section && report && not sampled
+
+-- the settled statement writes a stack
+abbrev pub writes_stack : Line → Bool
+writes_stack l = is_stack_report l.section l.report (is_some l.sample)
 
 -- ---- what there is above a statement
 
@@ -45,6 +54,10 @@ use Rattle.script_types.specs.Typing.{Scope, typed_as, number_as, or_kind}
 abbrev pub kind_above : List Line → List ℕ → Option Kind
 kind_above [] name = None
 kind_above (l ∷ ls) name = or_kind (kind_above ls name) (if bytes_eq name l.statement.target then Some l.kind else None)
+
+-- how many stacks some statements write
+abbrev pub stacks_written : List Line → ℕ
+stacks_written lines = sum_by (λ l. if writes_stack l then 1 else 0) lines
 
 -- what names are in a section, below these statements
 abbrev pub scope_at : Script → Section → List Line → Scope
@@ -56,6 +69,9 @@ scope_at script section lines = record {
   role = role_of (script_uses script);
   input = input_number script;
   above = kind_above lines;
+  is_sampled = is_sampled script;
+  stacks_written = stacks_written lines;
+  stacks_read = stacks_down_to script (length lines + 1);
 }
 
 -- the sections are one
@@ -91,17 +107,17 @@ asked_kind earlier bound = unwrap_or (or_kind earlier bound) Scalar
 abbrev pub free_side : Kind → List ℕ → Result Value MeaningKind
 free_side kind text = passed ((DrainPlace, is_kind Ldd kind) ∷ []) text >>= λ t. number_as kind t
 
--- a right side whose target has this kind
-abbrev pub right_side : Kind → Typed → Result Value MeaningKind
-right_side asked (typed.Literal text) = free_side asked text
-right_side asked (typed.Constant text) = free_side asked text
-right_side asked (typed.Map v) = Ok v
-right_side asked _ = Err KindMismatch
+-- a right side that is not sampled
+abbrev pub whole_side : Value → Side
+whole_side v = record { value = v; sample = None }
 
--- the section is `dynamic`
-abbrev pub is_dynamic : Section → Bool
-is_dynamic Initial = false
-is_dynamic Dynamic = true
+-- a right side whose target has this kind
+abbrev pub right_side : Kind → Typed → Result Side MeaningKind
+right_side asked (typed.Literal text) = free_side asked text >>= λ v. Ok (whole_side v)
+right_side asked (typed.Constant text) = free_side asked text >>= λ v. Ok (whole_side v)
+right_side asked (typed.Map v) = Ok (whole_side v)
+right_side asked (typed.Sample ids v) = Ok (record { value = v; sample = Some ids })
+right_side asked _ = Err KindMismatch
 
 -- A statement of kind ldd stands in `initial`.
 abbrev pub side_checks : Section → Kind → List (MeaningKind × Bool)
@@ -110,11 +126,12 @@ side_checks section kind = (DrainPlace, is_dynamic section && is_kind Ldd kind) 
 -- the expression is an operation
 abbrev pub is_call : Tree → Bool
 is_call (tree.Call' kind op shape operands) = true
+is_call (tree.LookUp' kind op file shape operands) = true
 is_call _ = false
 
--- A right side without an operation has one, a copy; a drain map has none.
-abbrev pub with_operation : Kind → Tree → Tree
-with_operation kind t = if is_call t || is_kind Ldd kind then t else tree.Call kind CopyOf (t ∷ [])
+-- A right side without an operation has one, a copy; a drain map has none, and neither has a time series of its own.
+abbrev pub with_operation : Bool → Kind → Tree → Tree
+with_operation sampled kind t = if is_call t || is_kind Ldd kind || sampled then t else tree.Call kind CopyOf (t ∷ [])
 
 -- ---- a target
 
@@ -123,49 +140,44 @@ abbrev pub differs : Option Kind → Kind → Bool
 differs None kind = false
 differs (Some other) kind = not (is_kind other kind)
 
--- a word with this place is that of a time series
-abbrev pub is_sample_word : Stands → Bool
-is_sample_word stands.Sample = true
-is_sample_word _ = false
-
--- the right side is a time series
-abbrev pub is_sample : Expr → Bool
-is_sample (expr.Call' word shape operands) = is_sample_word (stands_of (word_row word))
-is_sample _ = false
-
--- the statement writes a stack
-abbrev pub writes_stack : Section → Statement → Bool
-writes_stack section s = is_dynamic section && s.report && not (is_sample s.expr)
-
 -- The tests of a target, in their order, where so many operations stand above: the kind that an earlier statement or the
--- binding gives has to be this one.
-abbrev pub target_checks : Scope → ℕ → Statement → Kind → Tree → List (MeaningKind × Bool)
-target_checks scope before s kind t =
+-- binding gives has to be this one; a stack that is written has a prefix for its names; and no limit is passed, by
+-- operations, by stacks that are written or by stacks that are read.
+abbrev pub target_checks : Scope → ℕ → Statement → Bool → Kind → Tree → List (MeaningKind × Bool)
+target_checks scope before s sampled kind t =
     (NameClash, is_bound_to_number (scope.binding s.name)) ∷
     (KindMismatch, differs (scope.above s.name) kind || differs (bound_kind (scope.binding s.name)) kind) ∷
-    (BadStackName, writes_stack scope.section s && is_bad_prefix (file_by (scope.binding s.name) s.name) scope.steps) ∷
+    (BadStackName, is_stack_report scope.section s.report sampled && is_bad_prefix (file_by (scope.binding s.name) s.name) scope.steps) ∷
     (TooMany, nat_lt most_operations (before + operations_of t)) ∷
+    (TooMany, is_stack_report scope.section s.report sampled && nat_le most_stacks scope.stacks_written) ∷
+    (TooMany, nat_lt most_stacks scope.stacks_read) ∷
     []
 
 -- ---- a statement
 
 -- a settled statement
-abbrev pub line_with : Section → Statement → Kind → Tree → Line
-line_with section s kind t =
-    record { section = section; report = s.report; kind = kind; statement = record { target = s.name; value = t } }
+abbrev pub line_with : Section → Statement → Option ℕ → Kind → Tree → Line
+line_with section s sample kind t = record {
+  section = section;
+  report = s.report;
+  kind = kind;
+  sample = sample;
+  statement = record { target = s.name; value = t };
+}
 
--- the statement whose right side is this value, unless its target is at fault
-abbrev pub line_of_value : Scope → ℕ → Statement → Value → Result Line MeaningKind
-line_of_value scope before s v =
-    passed (side_checks scope.section v.kind) (with_operation v.kind v.tree) >>= λ t.
-    passed (target_checks scope before s v.kind t) (line_with scope.section s v.kind t)
+-- the statement with this right side, unless its target is at fault
+abbrev pub line_of_side : Scope → ℕ → Statement → Side → Result Line MeaningKind
+line_of_side scope before s side =
+    passed (side_checks scope.section side.value.kind) (with_operation (is_some side.sample) side.value.kind side.value.tree) >>= λ t.
+    passed (target_checks scope before s (is_some side.sample) side.value.kind t)
+    (line_with scope.section s side.sample side.value.kind t)
 
 -- a statement below so many operations of its section, or its first fault: of its right side, then of its target
 unfoldable pub line_read : Scope → ℕ → Statement → Result Line MeaningKind
 line_read scope before s =
     typed_as scope s.expr true used.Grid >>= λ t.
-    right_side (asked_kind (scope.above s.name) (bound_kind (scope.binding s.name))) t >>= λ v.
-    line_of_value scope before s v
+    right_side (asked_kind (scope.above s.name) (bound_kind (scope.binding s.name))) t >>= λ side.
+    line_of_side scope before s side
 
 -- ---- all statements
 

@@ -1,5 +1,5 @@
 -- The table of operations by its words: which row a word and a number of operands name, and where it may stand.
-use Rattle.std.specs.Prelude.{ℕ, Bool, true, false, ◌&&◌, ◌==◌, List, Option, Some, None, is_some}
+use Rattle.std.specs.Prelude.{ℕ, Bool, true, false, ◌&&◌, ◌==◌, List, Option, Some, None}
 use Rattle.std.specs.List.{find, before_first}
 use Rattle.std.specs.Str.{bytes_eq}
 use Rattle.text_base.specs.Bytes.{space}
@@ -13,7 +13,6 @@ use Rattle.map_meaning.specs.declared.row.Meant.{Meant}
 use Rattle.map_meaning.specs.declared.row.Meant.TheVariants as meant
 use Rattle.map_meaning.specs.declared.row.Stands.{Stands}
 use Rattle.map_meaning.specs.declared.row.Stands.TheVariants as stands
-use Rattle.map_meaning.specs.Programs.{file_role}
 use Rattle.map_meaning.specs.Table.{table_rows, ask_at, takes}
 
 -- the row is written so
@@ -53,12 +52,12 @@ abbrev pub asks_drain : Ask → Bool
 asks_drain (ask.Only Ldd) = true
 asks_drain _ = false
 
--- What the row stands for is not built: what looks its results up, and what stands for no operation.
+-- what the row stands for is not built
 abbrev pub is_unbuilt_meant : Meant → Bool
-is_unbuilt_meant (meant.Op o) = is_some (file_role o 0)
-is_unbuilt_meant _ = true
+is_unbuilt_meant meant.Unbuilt = true
+is_unbuilt_meant _ = false
 
--- The operation that the row stands for. What is not built stands for none: a script with its word is refused before.
+-- The operation that the row stands for, if it stands for one.
 abbrev pub op_of : Meant → Op
 op_of (meant.Op o) = o
 op_of _ = CopyOf

@@ -20,12 +20,14 @@ use Rattle.map_meaning.specs.declared.row.Row.{Row}
 use Rattle.map_meaning.specs.declared.row.Kinds.{Kinds}
 use Rattle.map_meaning.specs.declared.row.Ask.{Ask}
 use Rattle.map_meaning.specs.declared.row.Ask.TheVariants as ask
+use Rattle.map_meaning.specs.declared.row.Meant.{Meant}
+use Rattle.map_meaning.specs.declared.row.Meant.TheVariants as meant
 use Rattle.map_meaning.specs.declared.row.Stands.{Stands}
 use Rattle.map_meaning.specs.declared.row.Stands.TheVariants as stands
 use Rattle.map_meaning.specs.declared.table.TheConstants.{MANY_OPERANDS}
 use Rattle.map_meaning.specs.declared.tree.Tree.{Tree}
 use Rattle.map_meaning.specs.declared.tree.Tree.TheVariants as tree
-use Rattle.map_meaning.specs.Table.{is_kind, ask_at, allows, given_kind}
+use Rattle.map_meaning.specs.Table.{is_kind, ask_at, allows, given_kind, is_file}
 use Rattle.script_types.specs.declared.fault.MeaningKind.{MeaningKind}
 use Rattle.script_types.specs.declared.fault.MeaningKind.TheVariants.{UnknownName, KindMismatch, NotAssigned, BadStackName}
 use Rattle.script_types.specs.declared.fault.MeaningKind.TheVariants.{NameClash, BadWindow, WrongSection, DrainPlace}
@@ -40,7 +42,7 @@ use Rattle.script_types.specs.declared.typed.Argument.{Argument}
 use Rattle.script_types.specs.declared.typed.Argument.TheVariants as argument
 use Rattle.script_types.specs.Checks.{passed, all_of}
 use Rattle.script_types.specs.Table.{row_for, word_row, first_ask, stands_of, is_window, asks_drain, op_of}
-use Rattle.script_types.specs.Names.{is_same_use, first_role, in_roles, is_bad_prefix}
+use Rattle.script_types.specs.Names.{is_same_use, is_stack, first_role, in_roles, is_bad_prefix}
 
 -- What names are where a statement stands.
 pub record Scope : Type 0 where
@@ -51,12 +53,18 @@ pub record Scope : Type 0 where
   pub binding : List ℕ → Option Binding
   -- whether a statement of the script assigns a name
   pub is_assigned : List ℕ → Bool
+  -- whether a name is the target of a time series
+  pub is_sampled : List ℕ → Bool
   -- the role of a name in the whole script
   pub role : List ℕ → Option UsedAs
   -- the number of the input of a name
   pub input : List ℕ → Option ℕ
   -- the kind of the value that a name has here: that of the last statement above that assigns it
   pub above : List ℕ → Option Kind
+  -- how many stacks the statements above write
+  pub stacks_written : ℕ
+  -- how many stacks are read down to this statement
+  pub stacks_read : ℕ
 
 -- the first that there is
 abbrev pub or_kind : {A : Type 0} → Option A → Option A → Option A
@@ -65,20 +73,16 @@ or_kind (Some x) o = Some x
 
 -- ---- a name
 
--- the value that an assigned name has where it is read
-abbrev pub assigned_read : List ℕ → Option Kind → Result Typed MeaningKind
-assigned_read name None = Err NotAssigned
-assigned_read name (Some kind) = Ok (typed.Map (record { kind = kind; tree = tree.Name kind name }))
+-- the value that an assigned name has where it is read; the target of a time series is not read
+abbrev pub assigned_read : Bool → List ℕ → Option Kind → Result Typed MeaningKind
+assigned_read sampled name None = Err NotAssigned
+assigned_read sampled name (Some kind) =
+    passed ((KindMismatch, sampled) ∷ []) (typed.Map (record { kind = kind; tree = tree.Name kind name }))
 
 -- the name is used as it is at its first use
 abbrev pub is_its_role : Option UsedAs → UsedAs → Bool
 is_its_role None role = false
 is_its_role (Some first) role = is_same_use first role
-
--- a name stands here for a stack
-abbrev pub is_stack : UsedAs → Bool
-is_stack used.Stack = true
-is_stack _ = false
 
 -- the tests at the name of an input, in their order
 abbrev pub input_checks : Scope → UsedAs → List ℕ → List ℕ → Kind → List (MeaningKind × Bool)
@@ -91,9 +95,9 @@ input_checks scope role name file kind =
 -- an input as what it is used as
 abbrev pub input_as : UsedAs → Kind → ℕ → Typed
 input_as used.Grid kind number = typed.Map (record { kind = kind; tree = tree.Input kind number })
-input_as used.Stack kind number = typed.Stack kind
-input_as (used.Table keys of) kind number = typed.Table of
-input_as (used.Series of) kind number = typed.Series of
+input_as used.Stack kind number = typed.Stack kind number
+input_as (used.Table keys of) kind number = typed.Table of number
+input_as (used.Series of) kind number = typed.Series of number
 
 -- a number of a kind, where it is one
 abbrev pub cell_value : Kind → Result Cell NumberFault → Result Value MeaningKind
@@ -127,7 +131,8 @@ bound_read scope role name (Some b) = target_read scope role name b.kind b.targe
 -- a name that is read in this role
 unfoldable pub name_read : Scope → UsedAs → List ℕ → Result Typed MeaningKind
 name_read scope role name =
-    if scope.is_assigned name then assigned_read name (scope.above name) else bound_read scope role name (scope.binding name)
+    if scope.is_assigned name then assigned_read (scope.is_sampled name) name (scope.above name)
+    else bound_read scope role name (scope.binding name)
 
 -- ---- the operands of a call
 
@@ -163,14 +168,14 @@ abbrev pub free_at : Kind → Ask → List ℕ → Result Argument MeaningKind
 free_at agreed (ask.Only kind) text = number_map kind text
 free_at agreed (ask.One kinds) text = number_map (kind_of_free kinds) text
 free_at agreed (ask.Alike kinds) text = number_map agreed text
-free_at agreed ask.Length text = Ok (argument.Other Nominal)
+free_at agreed ask.Length text = Ok argument.Length
 free_at agreed _ text = Err KindMismatch
 
 -- a table, a series or a stack at its place
 abbrev pub bound_file_at : Ask → Typed → Result Argument MeaningKind
-bound_file_at (ask.Table asked) (typed.Table kind) = Ok (argument.Other kind)
-bound_file_at (ask.Series asked) (typed.Series kind) = Ok (argument.Other kind)
-bound_file_at ask.Stack (typed.Stack kind) = Ok (argument.Other kind)
+bound_file_at (ask.Table asked) (typed.Table kind number) = Ok (argument.File kind number)
+bound_file_at (ask.Series asked) (typed.Series kind number) = Ok (argument.File kind number)
+bound_file_at ask.Stack (typed.Stack kind number) = Ok (argument.File kind number)
 bound_file_at _ _ = Err KindMismatch
 
 -- an operand at its place
@@ -189,13 +194,20 @@ arguments_at row agreed i (t ∷ ts) =
 -- the kind of an operand at its place
 abbrev pub argument_kind : Argument → Kind
 argument_kind (argument.Map v) = v.kind
-argument_kind (argument.Other kind) = kind
+argument_kind (argument.File kind number) = kind
+argument_kind argument.Length = Nominal
 
 -- the operands that are maps
 abbrev pub maps_of : List Argument → List Tree
 maps_of [] = []
 maps_of (argument.Map v ∷ more) = v.tree ∷ maps_of more
-maps_of (argument.Other kind ∷ more) = maps_of more
+maps_of (argument.File kind number ∷ more) = maps_of more
+maps_of (argument.Length ∷ more) = maps_of more
+
+-- the number of the input that the first operand is, which is a table, a series or a stack
+abbrev pub file_of : List Argument → ℕ
+file_of (argument.File kind number ∷ more) = number
+file_of _ = 0
 
 -- ---- a call
 
@@ -213,14 +225,36 @@ nested op kind (t ∷ ts) = nested_on op kind t ts
 abbrev pub call_tree : Row → Kind → List Tree → Tree
 call_tree row kind ts = if nat_lt row.most MANY_OPERANDS then tree.Call kind (op_of row.meant) ts else nested (op_of row.meant) kind ts
 
--- an operation on operands that stand at their places
-abbrev pub call_value : Row → Kind → List Argument → Value
-call_value row kind xs = record { kind = kind; tree = call_tree row kind (maps_of xs) }
+-- an operation on operands that stand at their places: it may look its results up in a table or a series
+abbrev pub operation_tree : Row → Kind → List Argument → Tree
+operation_tree row kind xs =
+    if is_file row.first then tree.LookUp kind (op_of row.meant) (file_of xs) (maps_of xs) else call_tree row kind (maps_of xs)
 
--- an operation on these operands, by its row of the table
+-- a map of the kind
+abbrev pub typed_map : Kind → Tree → Typed
+typed_map kind t = typed.Map (record { kind = kind; tree = t })
+
+-- the number of the input that the map is, if it is one
+abbrev pub input_in : Tree → ℕ
+input_in (tree.Input kind number) = number
+input_in _ = 0
+
+-- a map that is sampled at the ids of another
+abbrev pub sample_of : List Argument → Result Typed MeaningKind
+sample_of (argument.Map ids ∷ argument.Map v ∷ []) = Ok (typed.Sample (input_in ids.tree) v)
+sample_of _ = Err KindMismatch
+
+-- what a row stands for, on operands that stand at their places
+abbrev pub meant_value : Meant → Row → Kind → List Argument → Result Typed MeaningKind
+meant_value meant.Step row kind xs = Ok (typed_map kind tree.Time)
+meant_value meant.Stack row kind xs = Ok (typed_map kind (tree.Stack kind (file_of xs)))
+meant_value meant.Sample row kind xs = sample_of xs
+meant_value _ row kind xs = Ok (typed_map kind (operation_tree row kind xs))
+
+-- what a row stands for, on these operands
 abbrev pub row_value : Row → Kind → List Typed → Result Typed MeaningKind
 row_value row agreed ts =
-    arguments_at row agreed 0 ts >>= λ xs. Ok (typed.Map (call_value row (given_kind row.gives agreed (map argument_kind xs)) xs))
+    arguments_at row agreed 0 ts >>= λ xs. meant_value row.meant row (given_kind row.gives agreed (map argument_kind xs)) xs
 
 -- The number of the operands and their kinds are those of a row of the table.
 abbrev pub call_by_row : Option Row → List Typed → Result Typed MeaningKind

@@ -1,5 +1,5 @@
 -- What a script has of the language that is not built yet.
-use Rattle.std.specs.Prelude.{ℕ, ◌||◌, ◌&&◌, Bool, false, List, Option, Some, None, nat_lt}
+use Rattle.std.specs.Prelude.{ℕ, ◌||◌, ◌&&◌, Bool, false, List, Option, Some, None}
 use Rattle.std.specs.List.{list_any}
 use Rattle.cell_values.specs.declared.kind.Kind.{Kind}
 use Rattle.cell_values.specs.declared.kind.Kind.TheVariants.{Ldd}
@@ -34,8 +34,7 @@ is_drain_kind (Some kind) = is_kind Ldd kind
 abbrev pub has_unbuilt_call : List Statement → Bool
 has_unbuilt_call statements = list_any (λ s. calls_unbuilt s.expr) statements
 
--- the script has a timer, a binding of kind ldd, or a call that is not built
+-- the script has a binding of kind ldd, or a call that is not built
 abbrev pub is_unbuilt : Script → Bool
 is_unbuilt script =
-    nat_lt 0 script.steps || list_any (λ b. is_drain_kind b.kind) script.bindings ||
-    has_unbuilt_call script.initial || has_unbuilt_call script.dynamic
+    list_any (λ b. is_drain_kind b.kind) script.bindings || has_unbuilt_call script.initial || has_unbuilt_call script.dynamic

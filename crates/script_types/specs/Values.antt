@@ -1,22 +1,23 @@
--- What the statements of a script report, and that its program writes the same.
-use Rattle.std.specs.Prelude.{◌≡◌, ℕ, List, [], ◌∷◌, map, Result, Ok, if◌then◌else◌}
+-- What the statements of a script report at each step, and that its program writes the same.
+use Rattle.std.specs.Prelude.{◌≡◌, ℕ, zero, suc, Bool, not, List, [], ◌∷◌, filter, map, Result, Ok, if◌then◌else◌}
 use Rattle.text_base.specs.Results.{◌>>=◌}
 use Rattle.cell_values.specs.declared.kind.Kind.{Kind}
 use Rattle.script_syntax.specs.declared.tree.Script.{Script}
-use Rattle.map_meaning.specs.declared.known.Known.{Known}
 use Rattle.map_meaning.specs.declared.known.OverAt.{OverAt}
-use Rattle.map_meaning.specs.declared.program.Operand.{Operand}
-use Rattle.map_meaning.specs.declared.program.Operand.TheVariants.{Initial}
+use Rattle.map_meaning.specs.declared.program.OutputKind.{OutputKind}
 use Rattle.map_meaning.specs.declared.program.OutputUse.{OutputUse}
 use Rattle.map_meaning.specs.declared.program.Program.{Program}
-use Rattle.map_meaning.specs.Evaluation.{nothing_done, operation_values}
-use Rattle.map_meaning.specs.Maps.{WholeMap, nth}
+use Rattle.map_meaning.specs.Evaluation.{Done, nothing_done, operand_map, operation_values}
+use Rattle.map_meaning.specs.Maps.{WholeMap}
+use Rattle.map_meaning.specs.Programs.{is_initial_grid}
 use Rattle.map_meaning.specs.Scenes.{Scene}
-use Rattle.map_meaning.specs.Sections.{section_value}
-use Rattle.map_meaning.specs.Spans.{Knows, scene_of, whole_span}
+use Rattle.map_meaning.specs.Sections.{After, section_value}
+use Rattle.map_meaning.specs.Spans.{done_next, step_span, whole_span}
 use Rattle.map_meaning.specs.Trees.{Environment}
 use Rattle.script_types.specs.declared.typed.Line.{Line}
-use Rattle.script_types.specs.Lowered.{statements_of}
+use Rattle.script_types.specs.declared.typed.Section.{Section}
+use Rattle.script_types.specs.declared.typed.Section.TheVariants.{Initial, Dynamic}
+use Rattle.script_types.specs.Lowered.{first_statement, form_by, lines_in, statements_of}
 use Rattle.script_types.specs.Names.{binding_of}
 use Rattle.script_types.specs.Reports.{Bound, file_written}
 
@@ -24,46 +25,84 @@ use Rattle.script_types.specs.Reports.{Bound, file_written}
 abbrev pub no_names : Environment
 no_names name = []
 
--- what a report writes: a file, and the cells of a map of this kind
+-- What a report writes: a file or the prefix of a stack, what it is written as, and the cells of a map of this kind. Of a time
+-- series it is the map that is sampled.
 pub record Written : Type 0 where
   pub file : List ℕ
+  pub form : OutputKind
   pub kind : Kind
   pub cells : WholeMap
 
+-- where and when each step is evaluated; step 0 is the section `initial`
+abbrev pub Scenes : Type 0
+Scenes = ℕ → Scene
+
+-- the scene with this number is at the step with this number
+abbrev pub AreInOrder : Scenes → Type 0
+AreInOrder scenes = (n : ℕ) → (scenes n).step ≡ n
+
+-- the section that is evaluated at a step
+abbrev pub section_at : ℕ → Section
+section_at zero = Initial
+section_at (suc n) = Dynamic
+
 -- ---- statements
+
+-- what stands after a section that begins in this environment, or its first Over
+abbrev pub section_after : Section → List Line → Scene → Environment → Result After OverAt
+section_after section lines scene names =
+    section_value scene (first_statement section lines) names (statements_of (lines_in section lines))
+
+-- What stands after `initial` and so many steps, or the first Over: each step begins in the environment that the one before
+-- it leaves.
+abbrev pub after_steps : List Line → Scenes → ℕ → Result After OverAt
+after_steps lines scenes zero = section_after Initial lines (scenes 0) no_names
+after_steps lines scenes (suc n) =
+    after_steps lines scenes n >>= λ before. section_after Dynamic lines (scenes (suc n)) before.names
 
 -- What some statements write that report, where these are their maps, in their order.
 abbrev pub reported : Bound → List Line → List WholeMap → List Written
 reported bound [] maps = []
 reported bound (l ∷ ls) [] = []
 reported bound (l ∷ ls) (m ∷ maps) =
-    if l.report then record { file = file_written bound l; kind = l.kind; cells = m } ∷ reported bound ls maps
+    if l.report then
+    record { file = file_written bound l; form = form_by l.section l.sample; kind = l.kind; cells = m } ∷ reported bound ls maps
     else reported bound ls maps
 
--- What a script's statements report, evaluated one after the other, or their first Over.
-abbrev pub script_reports : Script → List Line → Scene → Result (List Written) OverAt
-script_reports script lines scene =
-    section_value scene 1 no_names (statements_of lines) >>= λ after. Ok (reported (binding_of script) lines after.maps)
+-- What a script's statements report at a step, evaluated one after the other from `initial` on, or their first Over.
+abbrev pub script_reports : Script → List Line → Scenes → ℕ → Result (List Written) OverAt
+script_reports script lines scenes n =
+    after_steps lines scenes n >>= λ after. Ok (reported (binding_of script) (lines_in (section_at n) lines) after.maps)
 
 -- ---- the program
 
--- the map of an operand that names an operation of `initial`, where the operations have these maps
-abbrev pub initial_map : List WholeMap → Operand → WholeMap
-initial_map maps (Initial n) = nth maps n
-initial_map maps _ = []
+-- what is done after `initial` and so many steps, where the operations are evaluated one by one, or their first Over
+abbrev pub done_steps : Program → Scenes → ℕ → Result Done OverAt
+done_steps program scenes zero = operation_values program (scenes 0) (whole_span program) nothing_done program.initial
+done_steps program scenes (suc n) =
+    done_steps program scenes n >>= λ done.
+    operation_values program (scenes (suc n)) (step_span (suc n)) (done_next done) program.dynamic
 
--- what an output writes, where the operations of `initial` have these maps
-abbrev pub written : List WholeMap → OutputUse → Written
-written maps output = record { file = output.file; kind = output.cell_kind; cells = initial_map maps output.value }
+-- the output is written after this section
+abbrev pub is_output_of : Section → OutputUse → Bool
+is_output_of Initial output = is_initial_grid output.kind
+is_output_of Dynamic output = not (is_initial_grid output.kind)
 
--- What a program's outputs write, where its operations are evaluated one by one, or their first Over.
-abbrev pub program_reports : Program → Scene → Result (List Written) OverAt
-program_reports program scene =
-    operation_values program scene (whole_span program) nothing_done program.initial >>= λ done.
-    Ok (map (written done.initial) program.outputs)
+-- what an output writes at a step, where these operations are done
+abbrev pub written : Scene → Done → OutputUse → Written
+written scene done output = record {
+  file = output.file;
+  form = output.kind;
+  kind = output.cell_kind;
+  cells = operand_map scene done output.value;
+}
 
--- The program has the values of a script's statements: over all maps of its inputs it writes what these report, or has
--- their first Over.
+-- what a program's outputs write at a step, or its first Over
+abbrev pub program_reports : Program → Scenes → ℕ → Result (List Written) OverAt
+program_reports program scenes n =
+    done_steps program scenes n >>= λ done. Ok (map (written (scenes n) done) (filter (is_output_of (section_at n)) program.outputs))
+
+-- The program has the values of a script's statements: at each step it writes what these report, or has their first Over,
+-- whatever the maps of its inputs are.
 pub record HasValues (script : Script) (lines : List Line) (program : Program) : Type 0 where
-  pub same : (known : Known) → Knows program (whole_span program) known →
-      program_reports program (scene_of program.inputs known 0) ≡ script_reports script lines (scene_of program.inputs known 0)
+  pub same : (scenes : Scenes) → AreInOrder scenes → (n : ℕ) → program_reports program scenes n ≡ script_reports script lines scenes n

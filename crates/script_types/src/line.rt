@@ -1,16 +1,16 @@
-ghost use Rattle.std.specs.Prelude.{◌≡◌, ◌+◌, ◌≤◌, IfOk};
+ghost use Rattle.std.specs.Prelude.{◌≡◌, ◌+◌, ◌≤◌, IfOk, if◌then◌else◌};
 ghost use Rattle.std.specs.Option.{option_copied};
+ghost use Rattle.map_meaning.specs.Limits.{most_operations, most_stacks};
 ghost use Rattle.script_types.specs.Names.{is_bound_to_number};
-ghost use Rattle.script_types.specs.Statements.{asked_kind, bound_kind, differs, free_side, line_read, operations_of, right_side, with_operation};
-ghost use Rattle.script_types.specs.declared.typed.Section.TheVariants.{Initial};
+ghost use Rattle.script_types.specs.Statements.{asked_kind, bound_kind, differs, free_side, is_call, is_dynamic, is_stack_report, line_of_side, line_read, operations_of, right_side, whole_side, with_operation, writes_stack};
 ghost use Rattle.script_types.specs.inside.Answers.{CountsUpTo, GivesLine};
 ghost use Rattle.script_types.specs.inside.Scopes.{GivesKind, scope_of};
 
 use crate::end::KindEnd;
 use crate::fault::MeaningKind;
 use crate::same::is_kind;
-use crate::scope::{Scope, number_as};
-use crate::typed::{Line, Section, Typed, UsedAs, Value};
+use crate::scope::{Scope, file_by, is_bad_prefix, number_as};
+use crate::typed::{Line, Section, Side, Typed, UsedAs, Value};
 use crate::typing::typed_as;
 use cell_values::Kind;
 use map_meaning::{Op, Tree};
@@ -21,11 +21,15 @@ use std::alloc::{AllocError, Global};
 /// The most operations of a section.
 const MOST_OPERATIONS: usize = 8192;
 
-/// A settled statement, and how many operations its section has with it.
+/// The most stacks that are read, and the most that are written.
+const MOST_STACKS: u32 = 64;
+
+/// A settled statement, how many operations its section has with it, and how many stacks are written with it.
 #[derive(Drop)]
 pub struct Counted {
     pub line: Line,
     pub count: usize,
+    pub stacks: u32,
 }
 
 /// Whether the name is bound to a number.
@@ -78,28 +82,58 @@ fn free_side(kind: Kind, text: &[u8]) -> Result<Value, KindEnd>
     number_as(kind, text)
 }
 
-// A right side whose target has this kind.
-fn right_side(asked: Kind, typed: Typed) -> Result<Value, KindEnd>
-    ensures { GivesKind result (right_side asked typed) }
+// A right side that is not sampled.
+fn whole_side(value: Value) -> Side
+    ensures { result ≡ whole_side value }
 {
-    match typed {
-        Typed::Literal(text) => free_side(asked, text.bytes()),
-        Typed::Constant(text) => free_side(asked, text.bytes()),
-        Typed::Map(value) => Ok(value),
-        Typed::Table(_) => Err(KindEnd::Meaning(MeaningKind::KindMismatch)),
-        Typed::Series(_) => Err(KindEnd::Meaning(MeaningKind::KindMismatch)),
-        Typed::Stack(_) => Err(KindEnd::Meaning(MeaningKind::KindMismatch)),
+    Side {
+        value,
+        sample: None,
     }
 }
 
-// A right side without an operation has one, a copy; a drain map has none.
-fn with_operation(alloc: Global, kind: Kind, tree: Tree) -> Result<Tree, AllocError>
-    ensures { IfOk result (λ t. t ≡ with_operation kind tree) }
+// A right side whose target has this kind.
+fn right_side(asked: Kind, typed: Typed) -> Result<Side, KindEnd>
+    ensures { GivesKind result (right_side asked typed) }
 {
-    if is_kind(Kind::Ldd, kind) {
-        return Ok(tree);
+    match typed {
+        Typed::Literal(text) => Ok(whole_side(free_side(asked, text.bytes())?)),
+        Typed::Constant(text) => Ok(whole_side(free_side(asked, text.bytes())?)),
+        Typed::Map(value) => Ok(whole_side(value)),
+        Typed::Sample { ids, value } => Ok(Side {
+            value,
+            sample: Some(ids),
+        }),
+        Typed::Table { .. } => Err(KindEnd::Meaning(MeaningKind::KindMismatch)),
+        Typed::Series { .. } => Err(KindEnd::Meaning(MeaningKind::KindMismatch)),
+        Typed::Stack { .. } => Err(KindEnd::Meaning(MeaningKind::KindMismatch)),
     }
-    if matches!(&tree, Tree::Call { .. }) {
+}
+
+// Whether the section is `dynamic`.
+fn is_dynamic(section: Section) -> bool
+    ensures { result ≡ is_dynamic section }
+{
+    matches!(section, Section::Dynamic)
+}
+
+// Whether the expression is an operation.
+fn is_call(tree: &Tree) -> bool
+    ensures { result ≡ is_call tree.now }
+{
+    matches!(tree, Tree::Call { .. } | Tree::LookUp { .. })
+}
+
+// A right side without an operation has one, a copy; a drain map has none, and neither has a time series of its own.
+fn with_operation(
+    alloc: Global,
+    is_sampled: bool,
+    kind: Kind,
+    tree: Tree,
+) -> Result<Tree, AllocError>
+    ensures { IfOk result (λ t. t ≡ with_operation is_sampled kind tree) }
+{
+    if is_call(&tree) || is_kind(Kind::Ldd, kind) || is_sampled {
         return Ok(tree);
     }
     let mut operands = Items::new(alloc);
@@ -111,17 +145,19 @@ fn with_operation(alloc: Global, kind: Kind, tree: Tree) -> Result<Tree, AllocEr
     })
 }
 
-// How many operations there are with those of a tree, unless they are too many.
-#[tactic(auto, using(crate::proofs::CountLemmas::leaves))]
-fn count_with(tree: &Tree, above: usize) -> Option<usize>
+/// How many operations there are with those of a tree, unless they are too many.
+#[tactic(auto, using(crate::proofs::TreeCounts::none))]
+pub fn count_with(tree: &Tree, above: usize) -> Option<usize>
     requires { above ≤ 8192 }
-    ensures { CountsUpTo result (above + operations_of tree.now) }
+    ensures { CountsUpTo most_operations result (above + operations_of tree.now) }
 {
     match tree {
         Tree::Number { .. } => Some(above),
+        Tree::Time => Some(above),
         Tree::Input { .. } => Some(above),
+        Tree::Stack { .. } => Some(above),
         Tree::Name { .. } => Some(above),
-        Tree::Call { operands, .. } => {
+        Tree::Call { operands, .. } | Tree::LookUp { operands, .. } => {
             let mut count = above;
             for operand in operands.as_slice() {
                 match count_with(operand, count) {
@@ -138,7 +174,92 @@ fn count_with(tree: &Tree, above: usize) -> Option<usize>
     }
 }
 
-/// A statement of `initial` below so many operations, or its first fault.
+// How many stacks are written with this report, unless they are too many.
+fn stacks_with(is_stack: bool, written: u32) -> Option<u32>
+    requires { written ≤ 64 }
+    ensures { CountsUpTo most_stacks result (written + (if is_stack then 1 else 0)) }
+{
+    if !is_stack {
+        return Some(written);
+    }
+    if written < MOST_STACKS {
+        Some(written + 1)
+    } else {
+        None
+    }
+}
+
+// Whether a report of this section writes a stack.
+fn is_stack_report(section: Section, report: bool, is_sampled: bool) -> bool
+    ensures { result ≡ is_stack_report section report is_sampled }
+{
+    is_dynamic(section) && report && !is_sampled
+}
+
+/// Whether the statement writes a stack.
+pub fn writes_stack(line: &Line) -> bool
+    ensures { result ≡ writes_stack line.now }
+{
+    is_stack_report(line.section, line.report, line.sample.is_some())
+}
+
+// The statement with this right side below so many operations, or the first fault of its target.
+fn line_of_side(
+    alloc: Global,
+    scope: &Scope<'_>,
+    above: usize,
+    statement: &Statement,
+    side: Side,
+) -> Result<Counted, KindEnd>
+    requires above { above ≤ 8192 }
+    requires stacks { scope.now.stacks_written ≤ 64 }
+    ensures { GivesLine result scope.now above (line_of_side (scope_of scope.now) above statement.now side) }
+{
+    let Side { value, sample } = side;
+    let Value { kind, tree } = value;
+    if is_dynamic(scope.section) && is_kind(Kind::Ldd, kind) {
+        return Err(KindEnd::Meaning(MeaningKind::DrainPlace));
+    }
+    let tree = with_operation(alloc, sample.is_some(), kind, tree)?;
+    let name = statement.name.bytes();
+    let bound = scope.binding(name);
+    if is_bound_to_number(bound) {
+        return Err(KindEnd::Meaning(MeaningKind::NameClash));
+    }
+    if differs(scope.above.get(name), kind) || differs(bound_kind(bound), kind) {
+        return Err(KindEnd::Meaning(MeaningKind::KindMismatch));
+    }
+    let is_stack = is_stack_report(scope.section, statement.report, sample.is_some());
+    if is_stack && is_bad_prefix(file_by(bound, name), scope.steps) {
+        return Err(KindEnd::Meaning(MeaningKind::BadStackName));
+    }
+    let Some(count) = count_with(&tree, above) else {
+        return Err(KindEnd::Meaning(MeaningKind::TooMany));
+    };
+    let Some(stacks) = stacks_with(is_stack, scope.stacks_written) else {
+        return Err(KindEnd::Meaning(MeaningKind::TooMany));
+    };
+    if scope.stacks_read > MOST_STACKS {
+        return Err(KindEnd::Meaning(MeaningKind::TooMany));
+    }
+    let target = statement.name.twin(alloc)?;
+    Ok(Counted {
+        line: Line {
+            section: scope.section,
+            report: statement.report,
+            kind,
+            sample,
+            statement: map_meaning::Statement {
+                target,
+                value: tree,
+            },
+        },
+        count,
+        stacks,
+    })
+}
+
+/// A statement below so many operations of its section, or its first fault.
 #[tactic(auto, unfolding(crate::specs::Statements::line_read))]
 pub fn line_at(
     alloc: Global,
@@ -147,36 +268,12 @@ pub fn line_at(
     statement: &Statement,
 ) -> Result<Counted, KindEnd>
     requires above { above ≤ 8192 }
-    requires section { scope.now.section ≡ Initial }
-    ensures { GivesLine result above (line_read (scope_of scope.now) above statement.now) }
+    requires stacks { scope.now.stacks_written ≤ 64 }
+    ensures { GivesLine result scope.now above (line_read (scope_of scope.now) above statement.now) }
 {
     let typed = typed_as(alloc, scope, &statement.expr, true, UsedAs::Grid)?;
     let name = statement.name.bytes();
-    let earlier = scope.above.get(name);
-    let bound = scope.binding(name);
-    let value = right_side(asked_kind(earlier, bound_kind(bound)), typed)?;
-    let Value { kind, tree } = value;
-    let tree = with_operation(alloc, kind, tree)?;
-    if is_bound_to_number(bound) {
-        return Err(KindEnd::Meaning(MeaningKind::NameClash));
-    }
-    if differs(earlier, kind) || differs(bound_kind(bound), kind) {
-        return Err(KindEnd::Meaning(MeaningKind::KindMismatch));
-    }
-    let Some(count) = count_with(&tree, above) else {
-        return Err(KindEnd::Meaning(MeaningKind::TooMany));
-    };
-    let target = statement.name.twin(alloc)?;
-    Ok(Counted {
-        line: Line {
-            section: Section::Initial,
-            report: statement.report,
-            kind,
-            statement: map_meaning::Statement {
-                target,
-                value: tree,
-            },
-        },
-        count,
-    })
+    let asked = asked_kind(scope.above.get(name), bound_kind(scope.binding(name)));
+    let side = right_side(asked, typed)?;
+    line_of_side(alloc, scope, above, statement, side)
 }

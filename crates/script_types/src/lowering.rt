@@ -1,38 +1,39 @@
-ghost use Rattle.std.specs.Prelude.{◌≡◌, true, [], IfOk};
+ghost use Rattle.std.specs.Prelude.{◌≡◌, ◌++◌, true, IfOk};
 ghost use Rattle.script_syntax.specs.WellMade.{IsWellMade};
+ghost use Rattle.map_meaning.specs.Programs.{IsWellFormed};
 ghost use Rattle.script_types.specs.Answers.{IsProgramOf, Lowers};
-ghost use Rattle.script_types.specs.Lowered.{inputs_of};
+ghost use Rattle.script_types.specs.Lowered.{inputs_of, lines_in};
 ghost use Rattle.script_types.specs.Values.{HasValues};
+ghost use Rattle.script_types.specs.declared.typed.Section.TheVariants.{Initial, Dynamic};
 ghost use Rattle.script_types.specs.inside.Answers.{IsSettled};
-ghost use Rattle.script_types.specs.inside.FitLines.{LinesFit};
-ghost use Rattle.script_types.specs.inside.Forms.{HaveForms};
-ghost use Rattle.script_types.specs.inside.Sound.{are_sound};
+ghost use Rattle.script_types.specs.inside.Programs.{AllSuit, IsProgramWritten};
 
 use crate::end::LowerEnd;
+use crate::kept::keep;
 use crate::program::{inputs_of, write_lines};
 use crate::settle::{Settled, settle};
 use crate::unbuilt::is_unbuilt;
 use map_meaning::Program;
 use script_syntax::Script;
-use sqlite_items::Items;
 use std::alloc::{AllocError, Global};
 
 // The program of settled statements.
 fn program_of(alloc: Global, script: &Script, settled: &Settled<'_>) -> Result<Program, AllocError>
     requires made { IsWellMade script.now }
     requires settled { IsSettled script.now settled.now }
-    ensures program { IfOk result (λ program. IsProgramOf script.now settled.now.lines program) }
-    ensures values { IfOk result (λ program. LinesFit (inputs_of script.now) [] settled.now.lines → HasValues script.now settled.now.lines program) }
-    ensures formed { IfOk result (λ program. LinesFit (inputs_of script.now) [] settled.now.lines → are_sound settled.now.lines ≡ true → HaveForms (inputs_of script.now) program.initial settled.now.lines) }
+    requires ordered { settled.now.lines ≡ lines_in Initial settled.now.lines ++ lines_in Dynamic settled.now.lines }
+    requires suit { AllSuit (inputs_of script.now) }
+    ensures { IfOk result (λ program. IsProgramWritten script.now settled.now.lines program) }
 {
     let inputs = inputs_of(alloc, script, settled)?;
     let written = write_lines(alloc, &settled.scope, settled.lines.as_slice())?;
+    let kept = keep(alloc, written)?;
     let area = settled.scope.inputs.get(script.area.bytes()).unwrap_or(0);
     Ok(Program {
         inputs,
-        initial: written.ops,
-        dynamic: Items::new(alloc),
-        outputs: written.outputs,
+        initial: kept.initial,
+        dynamic: kept.dynamic,
+        outputs: kept.outputs,
         area,
         steps: script.steps,
     })

@@ -1,7 +1,8 @@
 ghost use Rattle.std.specs.Prelude.{◌≡◌, map, IfOk};
 ghost use Rattle.std.specs.Vec.Iter.{into_iter_items};
-ghost use Rattle.map_meaning.specs.Table.{allows, given_kind};
-ghost use Rattle.script_types.specs.Typing.{agreed_kind, argument_at, argument_kind, arguments_at, call_tree, deciding, bound_file_at, free_at, kind_of_free, maps_of, nested_on, number_map, row_value};
+ghost use Rattle.map_meaning.specs.Table.{allows, given_kind, is_file};
+ghost use Rattle.script_types.specs.Typing.{agreed_kind, argument_at, argument_kind, arguments_at, call_tree, deciding, bound_file_at, file_of, free_at, input_in, kind_of_free, typed_map, maps_of, meant_value, nested_on, number_map, operation_tree, row_value, sample_of};
+ghost use Rattle.script_types.specs.inside.Samples.{map_in};
 ghost use Rattle.script_types.specs.inside.Scopes.{GivesKind, GivesList};
 
 use crate::end::KindEnd;
@@ -11,7 +12,7 @@ use crate::scope::number_as;
 use crate::table::{ask_at, op_of};
 use crate::typed::{Argument, Typed, Value};
 use cell_values::Kind;
-use map_meaning::{Ask, Given, Kinds, MANY_OPERANDS, Op, Row, Tree};
+use map_meaning::{Ask, Given, Kinds, MANY_OPERANDS, Meant, Op, Row, Tree};
 use sqlite_items::{Items, at as at_place};
 use std::alloc::{AllocError, Global};
 use std::vec::IntoIter;
@@ -64,7 +65,7 @@ fn free_at(agreed: Kind, asked: Ask, text: &[u8]) -> Result<Argument, KindEnd>
         Ask::Only(kind) => number_map(kind, text),
         Ask::One(kinds) => number_map(kind_of_free(kinds), text),
         Ask::Alike(_) => number_map(agreed, text),
-        Ask::Length => Ok(Argument::Other(Kind::Nominal)),
+        Ask::Length => Ok(Argument::Length),
         Ask::Table(_) => Err(KindEnd::Meaning(MeaningKind::KindMismatch)),
         Ask::Series(_) => Err(KindEnd::Meaning(MeaningKind::KindMismatch)),
         Ask::Stack => Err(KindEnd::Meaning(MeaningKind::KindMismatch)),
@@ -91,9 +92,18 @@ fn file_at(asked: Ask, operand: &Typed) -> Result<Argument, KindEnd>
     ensures { GivesKind result (bound_file_at asked operand.now) }
 {
     match (asked, operand) {
-        (Ask::Table(_), Typed::Table(kind)) => Ok(Argument::Other(*kind)),
-        (Ask::Series(_), Typed::Series(kind)) => Ok(Argument::Other(*kind)),
-        (Ask::Stack, Typed::Stack(kind)) => Ok(Argument::Other(*kind)),
+        (Ask::Table(_), Typed::Table { kind, input }) => Ok(Argument::File {
+            kind: *kind,
+            input: *input,
+        }),
+        (Ask::Series(_), Typed::Series { kind, input }) => Ok(Argument::File {
+            kind: *kind,
+            input: *input,
+        }),
+        (Ask::Stack, Typed::Stack { kind, input }) => Ok(Argument::File {
+            kind: *kind,
+            input: *input,
+        }),
         _ => Err(KindEnd::Meaning(MeaningKind::KindMismatch)),
     }
 }
@@ -112,9 +122,7 @@ fn argument_at(agreed: Kind, asked: Ask, operand: Typed) -> Result<Argument, Kin
                 Err(KindEnd::Meaning(MeaningKind::KindMismatch))
             }
         }
-        Typed::Table(kind) => file_at(asked, &Typed::Table(kind)),
-        Typed::Series(kind) => file_at(asked, &Typed::Series(kind)),
-        Typed::Stack(kind) => file_at(asked, &Typed::Stack(kind)),
+        other => file_at(asked, &other),
     }
 }
 
@@ -143,7 +151,8 @@ fn argument_kind(argument: &Argument) -> Kind
 {
     match argument {
         Argument::Map(value) => value.kind,
-        Argument::Other(kind) => *kind,
+        Argument::File { kind, .. } => *kind,
+        Argument::Length => Kind::Nominal,
     }
 }
 
@@ -217,6 +226,116 @@ fn call_tree(alloc: Global, row: &Row, kind: Kind, maps: Vec<Tree>) -> Result<Tr
     }
 }
 
+// The number of the input that the first operand is.
+fn file_of(arguments: &[Argument]) -> u32
+    ensures { result ≡ file_of arguments.now }
+{
+    match arguments {
+        [Argument::File { input, .. }, ..] => *input,
+        _ => 0,
+    }
+}
+
+// Whether the place asks a table or a series.
+fn is_file(asked: Ask) -> bool
+    ensures { result ≡ is_file asked }
+{
+    match asked {
+        Ask::Table(_) => true,
+        Ask::Series(_) => true,
+        Ask::Only(_) => false,
+        Ask::One(_) => false,
+        Ask::Alike(_) => false,
+        Ask::Stack => false,
+        Ask::Length => false,
+    }
+}
+
+// An operation on operands that stand at their places.
+fn operation_tree(
+    alloc: Global,
+    row: &Row,
+    kind: Kind,
+    arguments: Vec<Argument>,
+) -> Result<Tree, AllocError>
+    ensures { IfOk result (λ tree. tree ≡ operation_tree row.now kind arguments.items) }
+{
+    let file = file_of(arguments.as_slice());
+    let maps = maps_of(alloc, arguments)?;
+    if is_file(row.first) {
+        return Ok(Tree::LookUp {
+            kind,
+            op: op_of(row.meant),
+            file,
+            operands: Items::from_vec(maps),
+        });
+    }
+    call_tree(alloc, row, kind, maps)
+}
+
+// The number of the input that the map is.
+fn input_in(tree: &Tree) -> u32
+    ensures { result ≡ input_in tree.now }
+{
+    match tree {
+        Tree::Input { input, .. } => *input,
+        _ => 0,
+    }
+}
+
+// The map that an operand is, if it is one.
+fn map_in(argument: Option<Argument>) -> Option<Value>
+    ensures { result ≡ map_in argument }
+{
+    match argument {
+        Some(Argument::Map(value)) => Some(value),
+        Some(Argument::File { .. }) => None,
+        Some(Argument::Length) => None,
+        None => None,
+    }
+}
+
+// A map that is sampled at the ids of another.
+fn sample_of(arguments: Vec<Argument>) -> Result<Typed, KindEnd>
+    ensures { GivesKind result (sample_of arguments.items) }
+{
+    let mut arguments = arguments.into_iter();
+    let Some(ids) = map_in(arguments.next()) else {
+        return Err(KindEnd::Meaning(MeaningKind::KindMismatch));
+    };
+    let Some(value) = map_in(arguments.next()) else {
+        return Err(KindEnd::Meaning(MeaningKind::KindMismatch));
+    };
+    match arguments.next() {
+        Some(_) => Err(KindEnd::Meaning(MeaningKind::KindMismatch)),
+        None => Ok(Typed::Sample {
+            ids: input_in(&ids.tree),
+            value,
+        }),
+    }
+}
+
+// What a row stands for, on operands that stand at their places.
+fn meant_value(
+    alloc: Global,
+    row: &Row,
+    kind: Kind,
+    arguments: Vec<Argument>,
+) -> Result<Typed, KindEnd>
+    ensures { GivesKind result (meant_value row.now.meant row.now kind arguments.items) }
+{
+    let tree = match row.meant {
+        Meant::Step => Tree::Time,
+        Meant::Stack => Tree::Stack {
+            kind,
+            input: file_of(arguments.as_slice()),
+        },
+        Meant::Sample => return sample_of(arguments),
+        Meant::Op(_) | Meant::Unbuilt => operation_tree(alloc, row, kind, arguments)?,
+    };
+    Ok(Typed::Map(Value { kind, tree }))
+}
+
 /// An operation on these operands, by its row of the table.
 pub fn row_value(
     alloc: Global,
@@ -228,7 +347,5 @@ pub fn row_value(
 {
     let arguments = arguments_at(alloc, row, agreed, operands)?;
     let kind = given_kind(row.gives, agreed, arguments.as_slice());
-    let maps = maps_of(alloc, arguments)?;
-    let tree = call_tree(alloc, row, kind, maps)?;
-    Ok(Typed::Map(Value { kind, tree }))
+    meant_value(alloc, row, kind, arguments)
 }

@@ -1,120 +1,98 @@
-ghost use Rattle.std.specs.Prelude.{◌≡◌, ◌+◌, ◌≤◌, [], ◌∷◌, ◌++◌, IfOk, OnOk, length, map, filter, if◌then◌else◌};
-ghost use Rattle.script_types.specs.Lowered.{input_of, inputs_of, output_of, total_operations};
-ghost use Rattle.script_types.specs.Reports.{file_written};
-ghost use Rattle.script_types.specs.Statements.{operations_of};
-ghost use Rattle.script_types.specs.inside.Answers.{StandsBelow, IsLineWritten, WritesLine, is_input_in};
-ghost use Rattle.script_types.specs.inside.Forms.{AddsForms, AreFormed};
-ghost use Rattle.script_types.specs.inside.LineValues.{AddsValues, AreOfLines};
-ghost use Rattle.script_types.specs.inside.Look.{look};
+ghost use Rattle.std.specs.Prelude.{◌≡◌, ◌≤◌, ◌++◌, ◌∷◌, [], true, IfOk, OnOk, length, map, filter, if◌then◌else◌};
+ghost use Rattle.map_meaning.specs.Programs.{SuitsRole};
+ghost use Rattle.script_types.specs.Lowered.{input_as_used, used_kind, input_role, inputs_of, lines_in, total_operations};
+ghost use Rattle.script_types.specs.inside.Answers.{StandsBelow, is_input_in};
+ghost use Rattle.script_types.specs.inside.Programs.{AllSuit, AreBothWritten, input_by};
 ghost use Rattle.script_types.specs.inside.Scopes.{binding_in};
+ghost use Rattle.script_types.specs.declared.typed.Section.TheVariants.{Initial, Dynamic};
 
 use crate::bindings::is_input;
-use crate::emit::{At, emit};
+use crate::kept::Written;
 use crate::names::Names;
 use crate::scope::Scope;
+use crate::section::{carry, write_section};
 use crate::settle::Settled;
-use crate::typed::{Line, UsedAs};
-use cell_values::{Kind, Word};
-use map_meaning::{InputUse, Operand, Operation, OutputKind, OutputUse, Role};
+use crate::typed::{Line, Section, UsedAs};
+use cell_values::Kind;
+use map_meaning::{InputUse, Role};
 use script_syntax::{Binding, Script, Target};
 use sqlite_items::Items;
 use std::alloc::{AllocError, Global};
 
-/// The operations and outputs of some statements.
-#[derive(Drop)]
-pub struct Written {
-    pub ops: Items<Operation>,
-    pub outputs: Items<OutputUse>,
+// How many statements stand in `initial`.
+fn initial_count(lines: &[Line]) -> usize
+    ensures { result ≡ length (lines_in Initial lines.now) }
+{
+    let mut count = 0;
+    for line in lines {
+        if matches!(line.section, Section::Initial) {
+            count += 1;
+        }
+    }
+    count
 }
 
-// The file that the report of a statement writes.
-fn file_written(alloc: Global, scope: &Scope<'_>, line: &Line) -> Result<Word, AllocError>
-    ensures { IfOk result (λ file. file ≡ file_written (binding_in scope.now) line.now) }
+/// Writes the operations and the outputs of the statements of a script, section by section.
+pub fn write_lines(alloc: Global, scope: &Scope<'_>, lines: &[Line]) -> Result<Written, AllocError>
+    requires ordered { lines.now ≡ lines_in Initial lines.now ++ lines_in Dynamic lines.now }
+    requires few { length lines.now ≤ 1000 }
+    requires few_initial { total_operations (lines_in Initial lines.now) ≤ 8192 }
+    requires few_dynamic { total_operations (lines_in Dynamic lines.now) ≤ 8192 }
+    ensures { IfOk result (λ written. AreBothWritten (binding_in scope.now) lines.now written) }
 {
-    match scope.binding(line.statement.target.bytes()) {
-        Some(binding) => match &binding.target {
-            Target::File(file) => file.twin(alloc),
-            Target::Number(_) => line.statement.target.twin(alloc),
-        },
-        None => line.statement.target.twin(alloc),
-    }
-}
-
-// Writes the output of a statement, where it reports, below so many operations.
-fn write_output(
-    alloc: Global,
-    scope: &Scope<'_>,
-    outputs: &mut Items<OutputUse>,
-    statement: u32,
-    below: usize,
-    line: &Line,
-) -> Result<(), AllocError>
-    requires { below ≤ 8192 }
-    ensures { OnOk result (outputs.new ≡ outputs.old ++ output_of (binding_in scope.now) statement below line.now) }
-{
-    if !line.report {
-        return Ok(());
-    }
-    let file = file_written(alloc, scope, line)?;
-    outputs.push(OutputUse {
-        file,
-        kind: OutputKind::InitialGrid,
-        value: Operand::Initial(below.saturating_sub(1) as u32),
-        cell_kind: line.kind,
-        statement,
+    let count = initial_count(lines);
+    let first = &lines[..count];
+    let later = &lines[count..];
+    let mut outputs = Items::new(alloc);
+    let mut holders = Names::new(alloc);
+    let initial = write_section(
+        alloc,
+        scope,
+        Section::Initial,
+        &mut outputs,
+        &mut holders,
+        0,
+        first,
+    )?;
+    carry(alloc, &mut holders, later)?;
+    let dynamic = write_section(
+        alloc,
+        scope,
+        Section::Dynamic,
+        &mut outputs,
+        &mut holders,
+        count,
+        later,
+    )?;
+    Ok(Written {
+        initial,
+        dynamic,
+        outputs,
     })
 }
 
-// Writes the operations of a statement, and its output where it reports.
-fn write_line(
-    alloc: Global,
-    scope: &Scope<'_>,
-    written: &mut Written,
-    holders: &mut Names<u32>,
-    statement: u32,
-    line: &Line,
-) -> Result<(), AllocError>
-    requires { length written.old.ops + operations_of line.now.statement.value ≤ 8192 }
-    ensures written { OnOk result (WritesLine written.old.ops written.old.outputs written.new.ops written.new.outputs (binding_in scope.now) statement line.now) }
-    ensures values { OnOk result (AddsValues (look holders.old.values) (look holders.new.values) written.old.ops written.new.ops statement line.now) }
-    ensures formed { OnOk result (AddsForms (look holders.old.values) written.old.ops written.new.ops statement line.now) }
+// The role of an input that is used so.
+fn input_role(role: UsedAs, kind: Kind) -> Role
+    requires { SuitsRole kind (input_role role) }
+    ensures { result ≡ input_role role }
 {
-    let at = At {
-        statement,
-        first: written.ops.len(),
-        kept: line.report,
-    };
-    emit(alloc, &mut written.ops, holders, at, &line.statement.value)?;
-    let below = written.ops.len();
-    let holder = below.saturating_sub(1) as u32;
-    holders.set(alloc, line.statement.target.bytes(), holder)?;
-    write_output(alloc, scope, &mut written.outputs, statement, below, line)
+    match role {
+        UsedAs::Grid => Role::Grid,
+        UsedAs::Stack => Role::Stack,
+        UsedAs::Table { keys, .. } => Role::Table { keys: keys as u32 },
+        UsedAs::Series { .. } => Role::Series,
+    }
 }
 
-/// Writes the operations and the outputs of the statements of a script.
-pub fn write_lines(alloc: Global, scope: &Scope<'_>, lines: &[Line]) -> Result<Written, AllocError>
-    requires few { length lines.now ≤ 1000 }
-    requires room { total_operations lines.now ≤ 8192 }
-    ensures written { IfOk result (λ written. IsLineWritten written (binding_in scope.now) lines.now) }
-    ensures values { IfOk result (λ written. AreOfLines written.ops lines.now) }
-    ensures formed { IfOk result (λ written. AreFormed written.ops lines.now) }
+// The kind of an input that is used so, and whose binding gives this kind.
+fn used_kind(role: UsedAs, given: Option<Kind>) -> Kind
+    ensures { result ≡ used_kind role given }
 {
-    let mut written = Written {
-        ops: Items::new(alloc),
-        outputs: Items::new(alloc),
-    };
-    let mut holders = Names::new(alloc);
-    for at in 0..lines.len() {
-        write_line(
-            alloc,
-            scope,
-            &mut written,
-            &mut holders,
-            at as u32 + 1,
-            &lines[at],
-        )?;
+    match role {
+        UsedAs::Table { kind, .. } => kind,
+        UsedAs::Series { kind } => kind,
+        _ => given.unwrap_or(Kind::Scalar),
     }
-    Ok(written)
 }
 
 // Writes the input of a binding, where it is one that is used.
@@ -122,9 +100,11 @@ fn write_input(
     alloc: Global,
     inputs: &mut Items<InputUse>,
     is_input: bool,
+    role: UsedAs,
     binding: &Binding,
 ) -> Result<(), AllocError>
-    ensures { OnOk result (inputs.new ≡ inputs.old ++ (if is_input then input_of binding.now ∷ [] else [])) }
+    requires { is_input ≡ true → SuitsRole (used_kind role binding.now.kind) (input_role role) }
+    ensures { OnOk result (inputs.new ≡ inputs.old ++ (if is_input then input_as_used role binding.now ∷ [] else [])) }
 {
     if !is_input {
         return Ok(());
@@ -133,10 +113,11 @@ fn write_input(
         Target::File(file) => file.twin(alloc)?,
         Target::Number(_) => binding.name.twin(alloc)?,
     };
+    let kind = used_kind(role, binding.kind);
     inputs.push(InputUse {
         file,
-        role: Role::Grid,
-        kind: binding.kind.unwrap_or(Kind::Scalar),
+        role: input_role(role, kind),
+        kind,
     })
 }
 
@@ -148,11 +129,13 @@ fn write_inputs(
     targets: &Names<bool>,
     roles: &Names<UsedAs>,
 ) -> Result<(), AllocError>
-    ensures { OnOk result (inputs.new ≡ inputs.old ++ map input_of (filter (is_input_in targets.now roles.now) bindings.now)) }
+    requires { AllSuit (map (input_by roles.now) (filter (is_input_in targets.now roles.now) bindings.now)) }
+    ensures { OnOk result (inputs.new ≡ inputs.old ++ map (input_by roles.now) (filter (is_input_in targets.now roles.now) bindings.now)) }
 {
     for binding in bindings {
         let used = is_input(targets, roles, binding);
-        write_input(alloc, inputs, used, binding)?;
+        let role = roles.get(binding.name.bytes()).unwrap_or(UsedAs::Grid);
+        write_input(alloc, inputs, used, role, binding)?;
     }
     Ok(())
 }
@@ -163,7 +146,8 @@ pub fn inputs_of(
     script: &Script,
     settled: &Settled<'_>,
 ) -> Result<Items<InputUse>, AllocError>
-    requires { StandsBelow script.now settled.now.scope settled.now.lines }
+    requires below { StandsBelow script.now settled.now.scope settled.now.lines }
+    requires suit { AllSuit (inputs_of script.now) }
     ensures { IfOk result (λ inputs. inputs ≡ inputs_of script.now) }
 {
     let mut inputs = Items::new(alloc);

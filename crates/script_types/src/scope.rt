@@ -1,8 +1,8 @@
 ghost use Rattle.std.specs.Prelude.{◌≡◌};
 ghost use Rattle.std.specs.Option.{option_copied};
-ghost use Rattle.script_types.specs.Names.{binding_at, is_bad_prefix};
+ghost use Rattle.script_types.specs.Names.{binding_at, file_by, is_bad_prefix, is_stack};
 ghost use Rattle.script_types.specs.inside.Look.{look};
-ghost use Rattle.script_types.specs.Typing.{assigned_read, constant_read, input_as, input_read, is_its_role, is_stack, name_read, number_as};
+ghost use Rattle.script_types.specs.Typing.{assigned_read, constant_read, input_as, input_read, is_its_role, name_read, number_as};
 ghost use Rattle.script_types.specs.inside.Scopes.{GivesKind, scope_of, binding_in};
 
 use crate::end::KindEnd;
@@ -27,16 +27,24 @@ pub struct Scope<'a> {
     pub places: Names<u32>,
     /// The names that statements assign.
     pub targets: Names<bool>,
+    /// The names that are targets of time series.
+    pub samples: Names<bool>,
     /// The role of each name that is used.
     pub roles: Names<UsedAs>,
     /// The number of each input.
     pub inputs: Names<u32>,
     /// The kind that the last statement above gave each name.
     pub above: Names<Kind>,
+    /// How many stacks the statements above write.
+    pub stacks_written: u32,
+    /// The names that are used down to this statement.
+    pub seen: Names<UsedAs>,
+    /// How many stacks are read down to this statement, and 65 where they are more.
+    pub stacks_read: u32,
 }
 
-// Whether the prefix gives no names for a stack.
-fn is_bad_prefix(prefix: &[u8], steps: u32) -> bool
+/// Whether the prefix gives no names for a stack.
+pub fn is_bad_prefix(prefix: &[u8], steps: u32) -> bool
     ensures { result ≡ is_bad_prefix prefix.now steps }
 {
     if prefix.contains(&b'.') || prefix.len() > 8 {
@@ -49,12 +57,20 @@ fn is_bad_prefix(prefix: &[u8], steps: u32) -> bool
 }
 
 // The value of an assigned name.
-fn assigned(alloc: Global, name: &[u8], above: Option<Kind>) -> Result<Typed, KindEnd>
-    ensures { GivesKind result (assigned_read name.now above) }
+fn assigned(
+    alloc: Global,
+    is_sampled: bool,
+    name: &[u8],
+    above: Option<Kind>,
+) -> Result<Typed, KindEnd>
+    ensures { GivesKind result (assigned_read is_sampled name.now above) }
 {
     let Some(kind) = above else {
         return Err(KindEnd::Meaning(MeaningKind::NotAssigned));
     };
+    if is_sampled {
+        return Err(KindEnd::Meaning(MeaningKind::KindMismatch));
+    }
     let name = Word::new(alloc, name)?;
     Ok(Typed::Map(Value {
         kind,
@@ -72,8 +88,8 @@ fn is_its_role(first: Option<UsedAs>, role: UsedAs) -> bool
     }
 }
 
-// Whether a name stands for a stack.
-fn is_stack(role: UsedAs) -> bool
+/// Whether a name stands for a stack.
+pub fn is_stack(role: UsedAs) -> bool
     ensures { result ≡ is_stack role }
 {
     matches!(role, UsedAs::Stack)
@@ -91,9 +107,18 @@ fn input_as(role: UsedAs, kind: Kind, number: u32) -> Typed
                 input: number,
             },
         }),
-        UsedAs::Stack => Typed::Stack(kind),
-        UsedAs::Table { kind: of, .. } => Typed::Table(of),
-        UsedAs::Series { kind: of } => Typed::Series(of),
+        UsedAs::Stack => Typed::Stack {
+            kind,
+            input: number,
+        },
+        UsedAs::Table { kind: of, .. } => Typed::Table {
+            kind: of,
+            input: number,
+        },
+        UsedAs::Series { kind: of } => Typed::Series {
+            kind: of,
+            input: number,
+        },
     }
 }
 
@@ -134,6 +159,19 @@ pub fn bound_in<'a>(
     bindings.get(place as usize)
 }
 
+/// The file that a target is written to: the bound one, or the one that has its own name.
+pub fn file_by<'a>(bound: Option<&'a Binding>, name: &'a [u8]) -> &'a [u8]
+    ensures { result.now ≡ file_by (option_copied bound.entry) name.now }
+{
+    let Some(binding) = bound else {
+        return name;
+    };
+    match &binding.target {
+        Target::File(file) => file.bytes(),
+        Target::Number(_) => name,
+    }
+}
+
 impl<'a> Scope<'a> {
     /// The binding of a name.
     pub fn binding(&self, name: &[u8]) -> Option<&'a Binding>
@@ -164,7 +202,8 @@ impl<'a> Scope<'a> {
         ensures { GivesKind result (name_read (scope_of self.now) role name.now) }
     {
         if self.targets.get(name).is_some() {
-            return assigned(alloc, name, self.above.get(name));
+            let is_sampled = self.samples.get(name).is_some();
+            return assigned(alloc, is_sampled, name, self.above.get(name));
         }
         let Some(binding) = self.binding(name) else {
             return Err(KindEnd::Meaning(MeaningKind::UnknownName));

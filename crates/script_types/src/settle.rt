@@ -1,20 +1,21 @@
-ghost use Rattle.std.specs.Prelude.{◌≡◌, ◌<◌, ◌≤◌, List, [], ℕ, IfOk, length};
+ghost use Rattle.std.specs.Prelude.{◌≡◌, ◌+◌, ◌<◌, ◌≤◌, [], IfOk, length};
 ghost use Rattle.std.specs.Option.{option_copied};
 ghost use Rattle.script_types.specs.Names.{inputs_before};
 ghost use Rattle.script_types.specs.Reports.{files_read};
-ghost use Rattle.script_types.specs.inside.Answers.{Adds, BeginsPass, GivesLines, GivesReports, HasFiles, StandsBelow, IsCount, SettlesScript, area_passes, reports_pass, told_end};
+ghost use Rattle.script_types.specs.Statements.{counts};
+ghost use Rattle.script_types.specs.inside.Answers.{Adds, AddsAll, AreNextBelow, BeginsPass, GivesLines, GivesReports, IsCount, IsFew, IsNextBelow, SettlesScript, StandsBelow, area_passes, reports_pass, told_end};
 ghost use Rattle.script_types.specs.inside.Scopes.{binding_in};
-ghost use Rattle.script_types.specs.inside.Look.{look};
+ghost use Rattle.script_types.specs.inside.Taken.{HasTaken};
 
 use crate::bindings::{numbers_of, places_of};
 use crate::end::{KindEnd, LowerEnd};
 use crate::fault::{MeaningFault, MeaningKind, Place};
 use crate::line::{is_bound_to_number, line_at};
 use crate::names::Names;
-use crate::reports::{check_reports, note_inputs};
+use crate::reports::{Taken, check_reports, nothing_taken, take, take_inputs};
 use crate::scope::{Scope, bound_in};
-use crate::tables::{roles_of, targets_of};
-use crate::typed::{Line, Section};
+use crate::tables::{area_role, note_uses, roles_of, samples_of, targets_of};
+use crate::typed::{Line, Section, UsedAs};
 use script_syntax::{Binding, Script, Statement};
 use sqlite_items::Items;
 use std::alloc::{AllocError, Global};
@@ -48,7 +49,9 @@ fn begin<'a>(alloc: Global, script: &'a Script) -> Result<Scope<'a>, LowerEnd>
         Err(end) => return Err(end),
     };
     let targets = targets_of(alloc, script)?;
+    let samples = samples_of(alloc, script)?;
     let roles = roles_of(alloc, script)?;
+    let seen = area_role(alloc, script)?;
     let first = inputs_before(bound_in(&script.bindings, &places, script.area.bytes()));
     let inputs = numbers_of(alloc, bindings, &targets, &roles, first)?;
     Ok(Scope {
@@ -57,9 +60,13 @@ fn begin<'a>(alloc: Global, script: &'a Script) -> Result<Scope<'a>, LowerEnd>
         bindings: &script.bindings,
         places,
         targets,
+        samples,
         roles,
         inputs,
         above: Names::new(alloc),
+        stacks_written: 0,
+        seen,
+        stacks_read: 0,
     })
 }
 
@@ -99,7 +106,7 @@ fn told_end(number: u32, end: KindEnd) -> LowerEnd
     }
 }
 
-// Adds a statement to the lines above it, or gives its first fault.
+// Adds a statement of a section to the lines above it, or gives its first fault.
 fn add_line(
     alloc: Global,
     script: &Script,
@@ -109,17 +116,26 @@ fn add_line(
     statement: &Statement,
 ) -> Result<usize, LowerEnd>
     requires below { StandsBelow script.now scope.old lines.old }
-    requires count { IsCount above lines.old }
+    requires count { IsCount scope.old.section above lines.old }
     requires room { length lines.old < 1000 }
-    ensures { Adds result script.now lines.old statement.now scope.new lines.new }
+    requires next { IsNextBelow script.now lines.old statement.now }
+    ensures { Adds result script.now scope.old.section lines.old statement.now scope.new lines.new }
 {
     let number = lines.len() as u32;
+    scope.stacks_read = note_uses(
+        alloc,
+        &mut scope.seen,
+        &statement.expr,
+        UsedAs::Grid,
+        scope.stacks_read,
+    )?;
     match line_at(alloc, scope, above, statement) {
         Ok(found) => {
             let kind = found.line.kind;
             scope
                 .above
                 .set(alloc, found.line.statement.target.bytes(), kind)?;
+            scope.stacks_written = found.stacks;
             lines.push(found.line)?;
             Ok(found.count)
         }
@@ -127,42 +143,82 @@ fn add_line(
     }
 }
 
-// The settled statements of `initial`, or the first fault of one.
+// Adds the statements of a section to the lines above them, or gives the first fault of one.
+fn add_section(
+    alloc: Global,
+    script: &Script,
+    scope: &mut Scope<'_>,
+    lines: &mut Items<Line>,
+    section: Section,
+    statements: &[Statement],
+) -> Result<(), LowerEnd>
+    requires below { StandsBelow script.now scope.old lines.old }
+    requires few { IsFew lines.old }
+    requires none { counts section lines.old ≡ 0 }
+    requires room { length lines.old + length statements.now ≤ 1000 }
+    requires next { AreNextBelow script.now lines.old statements.now }
+    ensures { AddsAll result script.now section lines.old statements.now scope.new lines.new }
+{
+    scope.section = section;
+    let mut count = 0;
+    for statement in statements {
+        match add_line(alloc, script, scope, lines, count, statement) {
+            Ok(more) => count = more,
+            Err(end) => return Err(end),
+        }
+    }
+    Ok(())
+}
+
+// The settled statements of both sections, or the first fault of one.
 fn lines_of<'a>(
     alloc: Global,
     script: &'a Script,
     scope: Scope<'a>,
 ) -> Result<Settled<'a>, LowerEnd>
     requires below { StandsBelow script.now scope [] }
-    requires few { length script.now.initial ≤ 1000 }
+    requires few { length script.now.initial + length script.now.dynamic ≤ 1000 }
     ensures { GivesLines result script.now }
 {
     let mut scope = scope;
     let mut lines = Items::new(alloc);
-    let mut count = 0;
-    for statement in script.initial.as_slice() {
-        match add_line(alloc, script, &mut scope, &mut lines, count, statement) {
-            Ok(more) => count = more,
-            Err(end) => return Err(end),
-        }
+    let initial = script.initial.as_slice();
+    let dynamic = script.dynamic.as_slice();
+    match add_section(
+        alloc,
+        script,
+        &mut scope,
+        &mut lines,
+        Section::Initial,
+        initial,
+    ) {
+        Ok(()) => {}
+        Err(end) => return Err(end),
+    }
+    match add_section(
+        alloc,
+        script,
+        &mut scope,
+        &mut lines,
+        Section::Dynamic,
+        dynamic,
+    ) {
+        Ok(()) => {}
+        Err(end) => return Err(end),
     }
     Ok(Settled { scope, lines })
 }
 
-// The files that a script reads.
-fn files_of(
-    alloc: Global,
-    script: &Script,
-    settled: &Settled<'_>,
-) -> Result<Names<bool>, AllocError>
+// What a script reads.
+fn files_of(alloc: Global, script: &Script, settled: &Settled<'_>) -> Result<Taken, AllocError>
     requires { StandsBelow script.now settled.now.scope settled.now.lines }
-    ensures { IfOk result (λ taken. HasFiles taken (files_read script.now)) }
+    ensures { IfOk result (λ taken. HasTaken taken (files_read script.now)) }
 {
-    let mut taken = Names::new(alloc);
+    let mut taken = nothing_taken(alloc);
     if settled.scope.binding(script.area.bytes()).is_none() {
-        taken.set(alloc, script.area.bytes(), true)?;
+        take(alloc, &mut taken, false, script.area.bytes())?;
     }
-    note_inputs(
+    take_inputs(
         alloc,
         &mut taken,
         script.bindings.as_slice(),
@@ -172,11 +228,11 @@ fn files_of(
     Ok(taken)
 }
 
-// Tests the files of the reports.
+// Tests what the reports write.
 fn check_files(alloc: Global, script: &Script, settled: &Settled<'_>) -> Result<(), LowerEnd>
     requires below { StandsBelow script.now settled.now.scope settled.now.lines }
     requires few { length settled.now.lines ≤ 1000 }
-    ensures { GivesReports result (reports_pass (binding_in settled.now.scope) (files_read script.now) 0 settled.now.lines) }
+    ensures { GivesReports result (reports_pass script.now.steps (binding_in settled.now.scope) (files_read script.now) 0 settled.now.lines) }
 {
     let mut taken = files_of(alloc, script, settled)?;
     check_reports(alloc, &settled.scope, &mut taken, settled.lines.as_slice())
@@ -185,8 +241,7 @@ fn check_files(alloc: Global, script: &Script, settled: &Settled<'_>) -> Result<
 /// The settled statements of a script, or its first fault.
 pub fn settle<'a>(alloc: Global, script: &'a Script) -> Result<Settled<'a>, LowerEnd>
     requires bindings { length script.now.bindings ≤ 1000 }
-    requires statements { length script.now.initial ≤ 1000 }
-    requires one_section { script.now.dynamic ≡ [] }
+    requires statements { length script.now.initial + length script.now.dynamic ≤ 1000 }
     ensures { SettlesScript result script.now }
 {
     let scope = match begin(alloc, script) {

@@ -1,16 +1,15 @@
-ghost use Rattle.std.specs.Prelude.{is_some, ◌≡◌, ◌&&◌, ◌==◌, ◌≤◌, length};
+ghost use Rattle.std.specs.Prelude.{◌≡◌, ◌&&◌, ◌==◌, ◌≤◌, length};
 ghost use Rattle.std.specs.Option.{option_copied};
 ghost use Rattle.std.specs.List.{find, list_any, position_or_len};
 ghost use Rattle.text_base.specs.Bytes.{space};
-ghost use Rattle.map_meaning.specs.Programs.{file_role};
 ghost use Rattle.map_meaning.specs.Table.{ask_at, takes};
-ghost use Rattle.script_types.specs.Names.{first_role, role_asked};
-ghost use Rattle.script_types.specs.Table.{is_spelled, is_unbuilt_meant, row_for, word_row, op_of, asks_drain};
+ghost use Rattle.script_types.specs.Names.{first_role, is_sample_word, role_asked};
+ghost use Rattle.script_types.specs.Table.{is_spelled, is_unbuilt_meant, row_for, stands_of, word_row, op_of, asks_drain};
 ghost use Rattle.script_types.specs.Unbuilt.{is_unbuilt_word};
 
 use crate::typed::UsedAs;
 use cell_values::Kind;
-use map_meaning::{Ask, Meant, Op, Row, rows};
+use map_meaning::{Ask, Meant, Op, Row, Stands, rows};
 
 // How many bytes stand before the first space.
 fn space_at(word: &[u8]) -> usize
@@ -64,33 +63,11 @@ fn find_word<'a>(rows: &'a [Row], word: &[u8]) -> Option<&'a Row>
     None
 }
 
-// Whether an operation looks its results up in a table or a series.
-fn looks_up(op: Op) -> bool
-    ensures { result ≡ is_some (file_role op 0) }
-{
-    matches!(
-        op,
-        Op::LookupBoolean
-            | Op::LookupNominal
-            | Op::LookupOrdinal
-            | Op::LookupScalar
-            | Op::LookupDirectional
-            | Op::TimeInputBoolean
-            | Op::TimeInputNominal
-            | Op::TimeInputOrdinal
-            | Op::TimeInputScalar
-            | Op::TimeInputDirectional
-    )
-}
-
 // Whether what the row stands for is not built.
 fn is_unbuilt_meant(meant: Meant) -> bool
     ensures { result ≡ is_unbuilt_meant meant }
 {
-    match meant {
-        Meant::Op(op) => looks_up(op),
-        Meant::Step | Meant::Stack | Meant::Sample | Meant::Unbuilt => true,
-    }
+    matches!(meant, Meant::Unbuilt)
 }
 
 // Whether one of the rows is written so and not built.
@@ -127,6 +104,23 @@ pub fn is_unbuilt_word(word: &[u8]) -> bool
     ensures { result ≡ is_unbuilt_word word.now }
 {
     has_unbuilt(rows(), word)
+}
+
+// Whether a word with this place is that of a time series.
+fn is_sample_place(stands: Stands) -> bool
+    ensures { result ≡ is_sample_word stands }
+{
+    matches!(stands, Stands::Sample)
+}
+
+/// Whether the word is that of a time series.
+pub fn is_sample_word(word: &[u8]) -> bool
+    ensures { result ≡ is_sample_word (stands_of (word_row word.now)) }
+{
+    match word_row(word) {
+        Some(row) => is_sample_place(row.stands),
+        None => false,
+    }
 }
 
 /// What a name is used as that is the first of so many operands of this word.

@@ -37,12 +37,14 @@ pub enum Typed {
     Constant(Word),
     /// A map.
     Map(Value),
-    /// The name of a table with results of this kind.
-    Table(Kind),
-    /// The name of a series of this kind.
-    Series(Kind),
-    /// The name of a stack of this kind.
-    Stack(Kind),
+    /// The name of a table with results of this kind, which is the input with this number.
+    Table { kind: Kind, input: u32 },
+    /// The name of a series of this kind, which is the input with this number.
+    Series { kind: Kind, input: u32 },
+    /// The name of a stack of this kind, which is the input with this number.
+    Stack { kind: Kind, input: u32 },
+    /// A time series that is written: the number of the input that is the map of ids, and the map that is sampled.
+    Sample { ids: u32, value: Value },
 }
 
 /// An operand at its place.
@@ -50,8 +52,18 @@ pub enum Typed {
 pub enum Argument {
     /// A map.
     Map(Value),
-    /// A table, a series or a stack of this kind, or the length of a window: no map.
-    Other(Kind),
+    /// A table, a series or a stack of this kind, which is the input with this number.
+    File { kind: Kind, input: u32 },
+    /// The length of a window.
+    Length,
+}
+
+/// A right side at its target.
+#[derive(Drop)]
+pub struct Side {
+    pub value: Value,
+    /// The number of the input that is the map of ids, where the value is sampled for a time series.
+    pub sample: Option<u32>,
 }
 
 /// A statement whose names, numbers and kinds are settled.
@@ -62,6 +74,8 @@ pub struct Line {
     pub report: bool,
     /// The kind of the value.
     pub kind: Kind,
+    /// The number of the input that is the map of ids, where the value is sampled for a time series.
+    pub sample: Option<u32>,
     /// The name that is assigned, and the value.
     pub statement: Statement,
 }

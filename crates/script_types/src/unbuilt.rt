@@ -67,9 +67,6 @@ fn has_unbuilt_call(statements: &[Statement]) -> bool
 pub fn is_unbuilt(script: &Script) -> bool
     ensures { result ≡ is_unbuilt script.now }
 {
-    if script.steps > 0 {
-        return true;
-    }
     if binds_drain(script.bindings.as_slice()) {
         return true;
     }

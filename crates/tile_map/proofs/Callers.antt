@@ -19,7 +19,6 @@ use Rattle.tile_map.proofs.PartLemmas as parts
 use Rattle.tile_map.proofs.PasteLemmas as pastes
 use Rattle.tile_map.proofs.RectLemmas as rects
 use Rattle.tile_map.proofs.TileLemmas as tiles
-
 -- rows and columns of a rectangle's cells, and of the numbers of held places
 pub use Rattle.tile_map.proofs.RectLemmas.{cell_col, cell_row, number_col, number_row, some_cols}
 -- a rectangle lists just its places

@@ -11,4 +11,10 @@ mod meaning;
 #[cfg(test)]
 mod plain;
 #[cfg(test)]
+mod programs;
+#[cfg(test)]
+mod sections;
+#[cfg(test)]
 mod texts;
+#[cfg(test)]
+mod told;

@@ -5,41 +5,26 @@ ghost use Rattle.std.specs.Prelude.{IfOk};
 ghost use Rattle.script_syntax.specs.WellMade.{IsWellMade};
 
 use crate::texts::{program_of, script_of};
+use crate::told::Told::{Area, At, Entry, Fine, Unbuilt};
+use crate::told::{Told, expect_told};
 use cell_values::Cell::Val;
 use cell_values::Kind;
 use map_meaning::Operand::{Initial, Input, Literal, Unused};
 use map_meaning::{Op, Operand, Operation};
 use script_syntax::Script;
 use script_types::MeaningKind::{KindMismatch, NameClash, NotAssigned, TooMany, UnknownName};
-use script_types::{LowerEnd, MeaningKind, Place, lower};
 use std::alloc::{AllocError, Global};
+use std::process::Abort;
 use std::test::Fail;
-
-/// What a script is told.
-#[derive(Clone, Copy, Debug, PartialEq, Eq)]
-enum Told {
-    /// It has a program of so many operations.
-    Fine(usize),
-    /// It has something that is not built.
-    Unbuilt,
-    /// A fault of an entry of `binding`.
-    Entry(u32, MeaningKind),
-    /// A fault of the area map.
-    Area(MeaningKind),
-    /// A fault of a statement.
-    At(u32, MeaningKind),
-}
-
-use Told::{Area, At, Entry, Fine, Unbuilt};
 
 /// The entries of the tables: inputs of each kind, numbers with a kind and without, files that are written.
 const ENTRIES: &str =
     "A = a.asc; S = s.asc : scalar; N = n.asc : nominal; Z = z.asc : ordinal; B = b.asc : boolean; \
     D = d.asc : directional; T = t.asc; K = 3; F = 2.5; M = 4 : nominal; G = 0.5 : scalar; R = r.asc; P = p.asc : nominal; \
-    W = a.asc; V = t.asc; U = E;";
+    W = a.asc; V = t.asc; U = E; L = l.tbl; J = j.tbl : nominal; I = l.tbl;";
 
 /// Statements that stand below the area map `A`.
-static STATEMENTS: [(&str, Told); 93] = [
+static STATEMENTS: [(&str, Told); 127] = [
     // names
     ("report C = A + X;", At(1, UnknownName)),
     ("report C = A + A;", Fine(1)),
@@ -138,6 +123,69 @@ static STATEMENTS: [(&str, Told); 93] = [
     ("K = N;", At(1, NameClash)),
     ("A = 1;", Area(NameClash)),
     ("A = X;", Area(NameClash)),
+    // lookup tables: the words of their kinds, one to four keys, and keys of each kind
+    ("report C = lookupscalar(L, N) + A;", Fine(2)),
+    ("report C = lookupboolean(L, A) and B;", Fine(2)),
+    ("report C = lookupnominal(L, A) == N;", Fine(2)),
+    ("report C = lookupordinal(L, A) < Z;", Fine(2)),
+    ("report C = lookupdirectional(L, A) == D;", Fine(2)),
+    (
+        "report C = lookupdirectional(L, A) == A;",
+        At(1, KindMismatch),
+    ),
+    ("report C = lookupscalar(L, B, N, Z, D);", Fine(1)),
+    (
+        "report C = lookupscalar(L, A, A, A, A, A);",
+        At(1, KindMismatch),
+    ),
+    ("report C = lookupscalar(L);", At(1, KindMismatch)),
+    ("report C = lookupscalar();", At(1, KindMismatch)),
+    ("report C = lookupscalar(L, A + 1);", Fine(2)),
+    // a number without a kind is a scalar as a key
+    ("report C = lookupscalar(L, 2.5, K);", Fine(1)),
+    ("report C = lookupscalar(L, 9000000000000);", Fine(1)),
+    (
+        "report C = lookupscalar(L, 9000000000001);",
+        At(1, KindMismatch),
+    ),
+    ("report C = lookupnominal(L, 5);", Fine(1)),
+    // what is no table
+    ("report C = lookupscalar(5, A);", At(1, KindMismatch)),
+    ("report C = lookupscalar(K, A);", At(1, KindMismatch)),
+    ("report C = lookupscalar(M, A);", At(1, KindMismatch)),
+    ("report C = lookupscalar(A + 1, A);", At(1, KindMismatch)),
+    ("report C = lookupscalar(X, A);", At(1, UnknownName)),
+    ("Y = A; report C = lookupscalar(Y, A);", At(2, KindMismatch)),
+    ("report C = lookupscalar(Y, A); Y = A;", At(1, NotAssigned)),
+    ("report C = L(A);", At(1, UnknownName)),
+    // an input has one role, by its first use
+    ("report C = lookupscalar(A, N);", At(1, NameClash)),
+    ("report C = lookupscalar(L, N) + L;", At(1, NameClash)),
+    ("report C = L; E = lookupscalar(L, N);", At(2, NameClash)),
+    ("report C = L + lookupscalar(L, N);", At(1, NameClash)),
+    ("C = lookupscalar(L, N); E = lookupscalar(L, Z);", Fine(2)),
+    (
+        "C = lookupscalar(L, N); E = lookupscalar(L, N, N);",
+        At(2, NameClash),
+    ),
+    (
+        "C = lookupscalar(L, N); E = lookupnominal(L, N);",
+        At(2, NameClash),
+    ),
+    (
+        "C = lookupscalar(L, N); E = lookupscalar(L);",
+        At(2, NameClash),
+    ),
+    // a table is a file that is read, and is bound with any kind
+    (
+        "C = lookupscalar(L, N); report E = lookupscalar(J, N);",
+        Fine(2),
+    ),
+    (
+        "C = lookupscalar(J, N) + lookupnominal(L, N);",
+        At(1, KindMismatch),
+    ),
+    ("C = lookupscalar(L, N); report I = A;", At(2, NameClash)),
     // reports
     ("report C = A; report C = A;", At(2, NameClash)),
     ("C = A; report C = A;", Fine(2)),
@@ -154,12 +202,9 @@ static STATEMENTS: [(&str, Told); 93] = [
 ];
 
 /// Statements with something that is not built, which is told before every fault.
-static NOT_BUILT: [&str; 9] = [
+static NOT_BUILT: [&str; 6] = [
     "report C = windowtotal(A, 3);",
     "report C = windowtotal(X, 3);",
-    "report C = X; Q = lookupscalar(T, N);",
-    "report C = time();",
-    "report C = timeinput(A);",
     "report C = areatotal(A, N) + A;",
     "report C = maptotal(A);",
     "report C = upstream(A, A);",
@@ -196,34 +241,23 @@ fn script(alloc: Global, entries: &str, area: &str, statements: &str) -> Result<
     script_of(alloc, &text)
 }
 
-// What a script is told.
-fn answer(alloc: Global, script: &Script) -> Result<Told, AllocError>
-    requires { IsWellMade script.now }
-{
-    match lower(alloc, script) {
-        Ok(program) => Ok(Fine(program.initial.len())),
-        Err(LowerEnd::Unbuilt) => Ok(Unbuilt),
-        Err(LowerEnd::Memory) => Err(AllocError),
-        Err(LowerEnd::Meaning(fault)) => Ok(match fault.at {
-            Place::Binding(entry) => Entry(entry, fault.kind),
-            Place::Area => Area(fault.kind),
-            Place::Statement(number) => At(number, fault.kind),
-        }),
-    }
-}
-
-// What a script of these parts is told.
-fn answer_of(alloc: Global, entries: &str, area: &str, statements: &str) -> Result<Told, Fail> {
-    let script = script(alloc, entries, area, statements)?;
-    let told = answer(alloc, &script)?;
-    Ok(told)
+// A script of these parts is told this.
+fn expect_answer(
+    rt: &impl Abort,
+    alloc: Global,
+    entries: &str,
+    area: &str,
+    statements: &str,
+    expected: Told,
+) -> Result<(), Fail> {
+    let text = format!(in alloc; "binding {entries} areamap {area}; initial {statements}")?;
+    expect_told(rt, alloc, &text, expected, &text)
 }
 
 #[test]
 fn first_faults_of_statements(rt: HostRuntime) -> Result<(), Fail> {
     for (text, expected) in &STATEMENTS {
-        let found = answer_of(rt.alloc(), ENTRIES, "A", text)?;
-        assert_eq!(rt; found, *expected, "{text}");
+        expect_answer(&rt, rt.alloc(), ENTRIES, "A", text, *expected)?;
     }
     Ok(())
 }
@@ -231,8 +265,7 @@ fn first_faults_of_statements(rt: HostRuntime) -> Result<(), Fail> {
 #[test]
 fn what_is_not_built(rt: HostRuntime) -> Result<(), Fail> {
     for text in &NOT_BUILT {
-        let found = answer_of(rt.alloc(), ENTRIES, "A", text)?;
-        assert_eq!(rt; found, Unbuilt, "{text}");
+        expect_answer(&rt, rt.alloc(), ENTRIES, "A", text, Unbuilt)?;
     }
     Ok(())
 }
@@ -240,12 +273,10 @@ fn what_is_not_built(rt: HostRuntime) -> Result<(), Fail> {
 #[test]
 fn first_faults_of_areas_and_bindings(rt: HostRuntime) -> Result<(), Fail> {
     for (area, text, expected) in &AREAS {
-        let found = answer_of(rt.alloc(), ENTRIES, area, text)?;
-        assert_eq!(rt; found, *expected, "{area}: {text}");
+        expect_answer(&rt, rt.alloc(), ENTRIES, area, text, *expected)?;
     }
     for (entries, expected) in &PAIRS {
-        let found = answer_of(rt.alloc(), entries, "A", "report C = A;")?;
-        assert_eq!(rt; found, *expected, "{entries}");
+        expect_answer(&rt, rt.alloc(), entries, "A", "report C = A;", *expected)?;
     }
     Ok(())
 }
@@ -348,8 +379,8 @@ fn a_program_written_out(rt: HostRuntime) -> Result<(), Fail> {
     Ok(())
 }
 
-// Statements of 64 sums each.
-fn sums(alloc: Global, count: usize) -> Result<String, AllocError> {
+/// Statements of 64 sums each.
+pub(crate) fn sums(alloc: Global, count: usize) -> Result<String, AllocError> {
     let mut text = String::new(alloc);
     for _ in 0..count {
         text.push_str("Q = A")?;
@@ -365,8 +396,8 @@ fn sums(alloc: Global, count: usize) -> Result<String, AllocError> {
 fn most_operations(rt: HostRuntime) -> Result<(), Fail> {
     let alloc = rt.alloc();
     let mut text = sums(alloc, 128)?;
-    assert_eq!(rt; answer_of(alloc, ENTRIES, "A", &text)?, Fine(8192));
+    expect_answer(&rt, alloc, ENTRIES, "A", &text, Fine(8192))?;
     text.push_str("Q = A;")?;
-    assert_eq!(rt; answer_of(alloc, ENTRIES, "A", &text)?, At(129, TooMany));
+    expect_answer(&rt, alloc, ENTRIES, "A", &text, At(129, TooMany))?;
     Ok(())
 }

@@ -15,7 +15,7 @@ type Case = (&'static str, u8, &'static str);
 const LONG_NAME: &str = "areamap r.asc; initial \
     AAAAAAAAAABBBBBBBBBBCCCCCCCCCCDDDDDDDDDDEEEEEEEEEEFFFFFFFFFFGGGGG = 1;";
 
-static SCRIPTS: [Case; 24] = [
+static SCRIPTS: [Case; 23] = [
     // the first fault of the text
     ("", 3, "script 1:1 end\n"),
     ("areamap r.asc; initial C = 1 $ 2;", 3, "script 1:30 byte\n"),
@@ -40,11 +40,6 @@ static SCRIPTS: [Case; 24] = [
     ),
     (
         "areamap r.asc; initial C = Z; D = maptotal(C);",
-        11,
-        "unbuilt m.mod\n",
-    ),
-    (
-        "areamap r.asc; timer 1 4 1; dynamic report C = 1;",
         11,
         "unbuilt m.mod\n",
     ),

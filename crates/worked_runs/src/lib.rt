@@ -19,4 +19,10 @@ mod scant;
 #[cfg(test)]
 mod scripts;
 #[cfg(test)]
+mod steps;
+#[cfg(test)]
+mod steps_faults;
+#[cfg(test)]
+mod steps_files;
+#[cfg(test)]
 mod weak;

@@ -7,13 +7,16 @@ use plain_eval::PlainRunner;
 use std::alloc::{AllocError, Global};
 use std::sync::Arc;
 
-/// What a runner was asked: the size, how many operations of `initial` and how many maps of inputs.
+/// What a runner was asked: the size, how many operations of `initial` or which steps, and how many maps of inputs and grids of
+/// stacks.
 #[derive(Clone, Copy, Debug, PartialEq, Eq)]
 pub struct Note {
     pub rows: u32,
     pub cols: u32,
     pub operations: u32,
+    pub steps: (u32, u32),
     pub maps: usize,
+    pub stacks: usize,
 }
 
 /// A runner that notes each run and passes it on to the plain one.
@@ -47,15 +50,17 @@ impl BlockRunner for NotingRunner {
         span: Span,
         known: &Arc<Known>,
     ) -> Result<StageEnd, AllocError> {
-        let operations = match span {
-            Span::Initial { first, end } => end - first,
-            Span::Steps { .. } => 0,
+        let (operations, steps) = match span {
+            Span::Initial { first, end } => (end - first, (0, 0)),
+            Span::Steps { first, last } => (0, (first, last)),
         };
         self.notes.push(Note {
             rows: known.rows,
             cols: known.cols,
             operations,
+            steps,
             maps: known.maps.len(),
+            stacks: known.stacks.len(),
         })?;
         self.plain.run(alloc, program, span, known)
     }

@@ -3,6 +3,8 @@
 use crate::files::{THREE_PUTS, failing_folder};
 use crate::noting::{Note, NotingRunner};
 use crate::runs::expect_puts;
+use crate::steps_faults::{FILES, SCRIPT};
+use crate::steps_files::folder_with;
 use crate::weak::WeakRunner;
 use outside_io::MemFolder;
 use plain_eval::PlainRunner;
@@ -45,7 +47,9 @@ fn asks_its_runner_once(rt: HostRuntime) -> Result<(), Fail> {
         rows: 1,
         cols: 3,
         operations: 7,
+        steps: (0, 0),
         maps: 3,
+        stacks: 0,
     };
     assert_eq!(rt; notes.as_slice(), [note].as_slice());
     expect_puts(&rt, rt.alloc(), &folder, &THREE_PUTS, "noted")
@@ -58,4 +62,26 @@ fn asks_no_runner_before_all_is_read(rt: HostRuntime) -> Result<(), Fail> {
     assert!(rt; matches!(end, SessionEnd::FolderReadFault(_)));
     assert!(rt; notes.is_empty());
     expect_puts(&rt, rt.alloc(), &folder, &[], "read fault")
+}
+
+// What the runner is asked for these steps over one row of two cells.
+fn step_note(operations: u32, step: u32, stacks: usize) -> Note {
+    Note {
+        rows: 1,
+        cols: 2,
+        operations,
+        steps: (step, step),
+        maps: 1,
+        stacks,
+    }
+}
+
+#[test]
+fn asks_its_runner_for_each_step(rt: HostRuntime) -> Result<(), Fail> {
+    let mut folder = folder_with(rt.alloc(), SCRIPT, &FILES)?;
+    let (end, notes) = noted_end(rt.alloc(), &mut folder)?;
+    assert!(rt; matches!(end, SessionEnd::Done { files: 7, steps: 2 }));
+    let expected = [step_note(1, 0, 0), step_note(0, 1, 1), step_note(0, 2, 1)];
+    assert_eq!(rt; notes.as_slice(), expected.as_slice());
+    Ok(())
 }

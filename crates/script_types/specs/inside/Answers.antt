@@ -1,18 +1,12 @@
 -- What answers of the code say of bindings, statements and reports.
-use Rattle.std.specs.Prelude.{◌≡◌, ◌+◌, ◌-◌, ◌≤◌, ◌&&◌, ◌||◌, if◌then◌else◌, map, filter, ◌<◌, ℕ, Bool}
-use Rattle.std.specs.Prelude.{false, List, [], ◌∷◌, ◌++◌, length, Option, Some, None, Result, Ok, Err, ⊤}
+use Rattle.std.specs.Prelude.{◌≡◌, ◌+◌, ◌≤◌, ◌&&◌, if◌then◌else◌, ◌<◌, ℕ, Bool, false, drop}
+use Rattle.std.specs.Prelude.{List, [], ◌∷◌, ◌++◌, length, Option, Some, None, Result, Ok, Err, ⊤}
 use Rattle.std.specs.Option.{is_some}
 use Rattle.std.specs.Str.{bytes_eq}
 use Rattle.script_syntax.specs.declared.tree.Binding.{Binding}
 use Rattle.script_syntax.specs.declared.tree.Statement.{Statement}
 use Rattle.script_syntax.specs.declared.tree.Script.{Script}
-use Rattle.cell_values.specs.declared.kind.Kind.{Kind}
-use Rattle.map_meaning.specs.declared.op.Op.{Op}
-use Rattle.map_meaning.specs.declared.program.Operation.{Operation}
-use Rattle.map_meaning.specs.declared.program.OutputUse.{OutputUse}
-use Rattle.map_meaning.specs.declared.tree.Tree.{Tree}
-use Rattle.map_meaning.specs.Limits.{most_operations}
-use Rattle.script_types.specs.declared.emit.At.{At}
+use Rattle.map_meaning.specs.Limits.{most_operations, most_stacks}
 use Rattle.script_types.specs.declared.end.KindEnd.{KindEnd}
 use Rattle.script_types.specs.declared.end.KindEnd.TheVariants.{Meaning, Memory}
 use Rattle.script_types.specs.declared.end.LowerEnd.{LowerEnd}
@@ -22,21 +16,23 @@ use Rattle.script_types.specs.declared.fault.MeaningFault.{MeaningFault}
 use Rattle.script_types.specs.declared.fault.Place.TheVariants as place
 use Rattle.script_types.specs.declared.line.Counted.{Counted}
 use Rattle.script_types.specs.declared.names.Names.{Names}
-use Rattle.script_types.specs.declared.program.Written.{Written}
 use Rattle.script_types.specs.declared.scope.Scope.{Scope}
 use Rattle.script_types.specs.declared.settle.Settled.{Settled}
 use Rattle.script_types.specs.declared.typed.Line.{Line}
-use Rattle.script_types.specs.declared.typed.Section.TheVariants.{Initial}
+use Rattle.script_types.specs.declared.typed.Section.{Section}
+use Rattle.script_types.specs.declared.typed.Section.TheVariants.{Initial, Dynamic}
 use Rattle.script_types.specs.declared.typed.UsedAs.{UsedAs}
 use Rattle.script_types.specs.Checks.{passed}
-use Rattle.script_types.specs.Names.{binding_of, input_number, is_assigned, is_input_by, place_from, role_of, script_uses, target_file}
+use Rattle.script_types.specs.Names.{binding_of, input_number, is_assigned, is_input_by, is_sampled}
+use Rattle.script_types.specs.Names.{place_from, role_of, script_uses, uses_down_to}
 use Rattle.script_types.specs.Typing.{or_kind}
-use Rattle.script_types.specs.Statements.{counts, kind_above, lines_below, next_line, operations_of}
-use Rattle.script_types.specs.Reports.{Bound, is_among, report_checks, with_report, writes_taken}
+use Rattle.script_types.specs.Statements.{all_lines, counts, is_in, kind_above, lines_below, next_line, operations_of}
+use Rattle.script_types.specs.Statements.{stacks_written, writes_stack}
+use Rattle.script_types.specs.Reports.{Bound, Kept, report_checks}
 use Rattle.script_types.specs.Meaning.{area_checks, binding_checks, meaning}
-use Rattle.script_types.specs.Lowered.{as_listed, numbered_operations, operations_from}
-use Rattle.script_types.specs.Lowered.{output_of, outputs_from, post_order, total_operations}
+use Rattle.script_types.specs.Lowered.{lines_in, total_operations}
 use Rattle.script_types.specs.inside.Look.{look}
+use Rattle.script_types.specs.inside.Stacks.{with_uses}
 
 -- an answer gives the value, or its first fault, or there was no memory
 abbrev pub TellsMeaning : {A : Type 0} → Result A LowerEnd → Result A MeaningFault → Type 0
@@ -72,52 +68,88 @@ TakesNumber next old new is_input name number =
 
 -- ---- statements
 
--- the line is the value, and the count is that of the operations with it
-pub record IsCounted (found : Counted) (above : ℕ) (value : Result Line MeaningKind) : Type 0 where
+-- the line is the value, and the counts are those of operations and of stacks with it
+pub record IsCounted (found : Counted) (scope : Scope) (above : ℕ) (value : Result Line MeaningKind) : Type 0 where
   pub line : value ≡ Ok found.line
-  pub section : found.line.section ≡ Initial
+  pub section : found.line.section ≡ scope.section
   pub count : found.count ≡ above + operations_of found.line.statement.value
   pub few : found.count ≤ most_operations
+  pub stacks : found.stacks ≡ scope.stacks_written + (if writes_stack found.line then 1 else 0)
+  pub few_stacks : found.stacks ≤ most_stacks
 
--- an answer gives a line with its count, or the first fault of the statement, or there was no memory
-abbrev pub GivesLine : Result Counted KindEnd → ℕ → Result Line MeaningKind → Type 0
-GivesLine (Ok found) above value = IsCounted found above value
-GivesLine (Err (Meaning fault)) above value = value ≡ Err fault
-GivesLine (Err Memory) above value = ⊤
+-- an answer gives a line with its counts, or the first fault of the statement, or there was no memory
+abbrev pub GivesLine : Result Counted KindEnd → Scope → ℕ → Result Line MeaningKind → Type 0
+GivesLine (Ok found) scope above value = IsCounted found scope above value
+GivesLine (Err (Meaning fault)) scope above value = value ≡ Err fault
+GivesLine (Err Memory) scope above value = ⊤
 
--- the number, unless it is above the most operations
-abbrev pub CountsUpTo : Option ℕ → ℕ → Type 0
-CountsUpTo None number = most_operations < number
-CountsUpTo (Some n) number = (n ≡ number) × (n ≤ most_operations)
+-- the number, unless it is above the most
+abbrev pub CountsUpTo : ℕ → Option ℕ → ℕ → Type 0
+CountsUpTo most None number = most < number
+CountsUpTo most (Some n) number = (n ≡ number) × (n ≤ most)
 
--- the tables say what names are in `initial` below these statements
+-- the tables say what names are below these statements
 pub record StandsBelow (script : Script) (scope : Scope) (lines : List Line) : Type 0 where
-  pub section : scope.section ≡ Initial
   pub steps : scope.steps ≡ script.steps
   pub bindings : scope.bindings.now ≡ script.bindings
   pub places : (name : List ℕ) → look scope.places.values name ≡ place_from 0 script.bindings name
   pub targets : (name : List ℕ) → is_some (look scope.targets.values name) ≡ is_assigned script name
+  pub samples : (name : List ℕ) → is_some (look scope.samples.values name) ≡ is_sampled script name
   pub roles : (name : List ℕ) → look scope.roles.values name ≡ role_of (script_uses script) name
   pub inputs : (name : List ℕ) → look scope.inputs.values name ≡ input_number script name
   pub above : (name : List ℕ) → look scope.above.values name ≡ kind_above lines name
+  pub seen : (name : List ℕ) → look scope.seen.values name ≡ role_of (uses_down_to script (length lines)) name
+  pub stacks_read : scope.stacks_read ≡ with_uses (λ name. false) (uses_down_to script (length lines)) 0
+  pub few_read : scope.stacks_read ≤ 65
+  pub stacks_written : scope.stacks_written ≡ stacks_written lines
+  pub few_written : scope.stacks_written ≤ most_stacks
 
--- so many operations stand in these statements
-pub record IsCount (count : ℕ) (lines : List Line) : Type 0 where
-  pub counted : count ≡ counts Initial lines
-  pub total : count ≡ total_operations lines
-  pub few : count ≤ most_operations
+-- no section of these statements has too many operations
+pub record IsFew (lines : List Line) : Type 0 where
+  pub in_initial : counts Initial lines ≤ most_operations
+  pub in_dynamic : counts Dynamic lines ≤ most_operations
 
--- the next statement of `initial` below these
-abbrev pub next_initial : Script → List Line → Statement → Result Line MeaningFault
-next_initial script lines s = next_line script Initial lines s
+-- so many operations of the section stand in these statements
+pub record IsCount (section : Section) (count : ℕ) (lines : List Line) : Type 0 where
+  pub counted : count ≡ counts section lines
+  pub few : IsFew lines
+
+-- the statements of the script behind these
+abbrev pub statements_behind : Script → List Line → List Statement
+statements_behind script lines = drop (length lines) (script.initial ++ script.dynamic)
+
+-- the statement is the next below these
+abbrev pub IsNextBelow : Script → List Line → Statement → Type 0
+IsNextBelow script lines s = (more : List Statement) × (statements_behind script lines ≡ s ∷ more)
+
+-- the statements are the next below these
+abbrev pub AreNextBelow : Script → List Line → List Statement → Type 0
+AreNextBelow script lines ss = (more : List Statement) × (statements_behind script lines ≡ ss ++ more)
 
 -- a line was added, and the tables say what names are below it; or it is the first fault; or there was no memory
-abbrev pub Adds : Result ℕ LowerEnd → Script → List Line → Statement → Scope → List Line → Type 0
-Adds (Ok count) script above s scope lines =
-    (l : Line) × (next_initial script above s ≡ Ok l) × (lines ≡ above ++ l ∷ []) × StandsBelow script scope lines × IsCount count lines
-Adds (Err (lower.Meaning fault)) script above s scope lines = next_initial script above s ≡ Err fault
-Adds (Err lower.Unbuilt) script above s scope lines = ⊥
-Adds (Err lower.Memory) script above s scope lines = ⊤
+abbrev pub Adds : Result ℕ LowerEnd → Script → Section → List Line → Statement → Scope → List Line → Type 0
+Adds (Ok count) script section above s scope lines =
+    (l : Line) × (next_line script section above s ≡ Ok l) × (lines ≡ above ++ l ∷ []) × (l.section ≡ section) ×
+    (scope.section ≡ section) × StandsBelow script scope lines × IsCount section count lines
+Adds (Err (lower.Meaning fault)) script section above s scope lines = next_line script section above s ≡ Err fault
+Adds (Err lower.Unbuilt) script section above s scope lines = ⊥
+Adds (Err lower.Memory) script section above s scope lines = ⊤
+
+-- the lines of a section were added, and the tables say what names are below them
+pub record IsAdded (script : Script) (section : Section) (above : List Line) (ss : List Statement)
+    (scope : Scope) (lines : List Line) : Type 0 where
+  pub settled : lines_below script section above ss ≡ Ok lines
+  pub count : length lines ≡ length above + length ss
+  pub untouched : (other : Section) → is_in other section ≡ false → counts other lines ≡ counts other above
+  pub below : StandsBelow script scope lines
+  pub few : IsFew lines
+
+-- an answer added the lines of a section, or gives the first fault of one, or there was no memory
+abbrev pub AddsAll : Result (Unit {0}) LowerEnd → Script → Section → List Line → List Statement → Scope → List Line → Type 0
+AddsAll (Ok x) script section above ss scope lines = IsAdded script section above ss scope lines
+AddsAll (Err (lower.Meaning fault)) script section above ss scope lines = lines_below script section above ss ≡ Err fault
+AddsAll (Err lower.Unbuilt) script section above ss scope lines = ⊥
+AddsAll (Err lower.Memory) script section above ss scope lines = ⊤
 
 -- the end of a statement, with its place
 abbrev pub told_end : ℕ → KindEnd → LowerEnd
@@ -126,23 +158,9 @@ told_end n Memory = lower.Memory
 
 -- ---- reports
 
--- the table has just these files
-abbrev pub HasFiles : Names Bool → List (List ℕ) → Type 0
-HasFiles table files = (name : List ℕ) → is_some (look table.values name) ≡ is_among name files
-
--- the files of the inputs that are used, by the tables of targets and roles
-abbrev pub input_files : Names Bool → Names UsedAs → List Binding → List (List ℕ)
-input_files targets roles bindings = map (λ b. target_file b.target b.name) (filter (is_input_in targets roles) bindings)
-
--- the file of a binding is taken where it is an input that is used
-abbrev pub Notes : Names Bool → Names Bool → Bool → Binding → Type 0
-Notes old new is_input b =
-    (name : List ℕ) →
-    is_some (look new.values name) ≡ (is_input && bytes_eq name (target_file b.target b.name) || is_some (look old.values name))
-
 -- what the tests of the reports tell
-abbrev pub reports_pass : Bound → List (List ℕ) → ℕ → List Line → Result ℕ MeaningFault
-reports_pass bound taken k lines = passed (report_checks bound taken k lines) 0
+abbrev pub reports_pass : ℕ → Bound → List Kept → ℕ → List Line → Result ℕ MeaningFault
+reports_pass steps bound taken k lines = passed (report_checks steps bound taken k lines) 0
 
 -- no report is at fault, or it is the first, or there was no memory
 abbrev pub GivesReports : Result (Unit {0}) LowerEnd → Result ℕ MeaningFault → Type 0
@@ -150,19 +168,6 @@ GivesReports (Ok x) value = value ≡ Ok 0
 GivesReports (Err (lower.Meaning fault)) value = value ≡ Err fault
 GivesReports (Err lower.Unbuilt) value = ⊥
 GivesReports (Err lower.Memory) value = ⊤
-
--- whether the file was taken; it is now, if it was not
-abbrev pub Takes : {E : Type 0} → Result Bool E → Names Bool → Names Bool → List ℕ → Type 0
-Takes (Ok was) old new file =
-    (files : List (List ℕ)) → HasFiles old files → (was ≡ is_among file files) × (was ≡ false → HasFiles new (file ∷ files))
-Takes (Err e) old new file = ⊤
-
--- the report of a statement: whether its file was taken, and it is now
-abbrev pub Reports : {E : Type 0} → Result Bool E → Names Bool → Names Bool → Bound → Line → Type 0
-Reports (Ok was) old new bound l =
-    (files : List (List ℕ)) → HasFiles old files →
-    (was ≡ writes_taken bound files l) × (was ≡ false → HasFiles new (with_report bound files l))
-Reports (Err e) old new bound l = ⊤
 
 -- ---- the whole
 
@@ -177,17 +182,17 @@ BeginsPass (Err lower.Memory) script = ⊤
 abbrev pub area_passes : Script → Result ℕ MeaningFault
 area_passes script = passed (area_checks (binding_of script script.area) (is_assigned script script.area)) 0
 
--- the tables are those below all statements, which have no more operations than a section may have
+-- the tables are those below all statements, of which no section has more operations than it may have
 pub record IsSettled (script : Script) (s : Settled) : Type 0 where
   pub below : StandsBelow script s.scope s.lines
-  pub count : length s.lines ≡ length script.initial
-  pub few : total_operations s.lines ≤ most_operations
+  pub count : length s.lines ≡ length script.initial + length script.dynamic
+  pub few_initial : total_operations (lines_in Initial s.lines) ≤ most_operations
+  pub few_dynamic : total_operations (lines_in Dynamic s.lines) ≤ most_operations
 
--- an answer gives the statements of `initial`, or the first fault of one, or there was no memory
+-- an answer gives the statements of both sections, or the first fault of one, or there was no memory
 abbrev pub GivesLines : Result Settled LowerEnd → Script → Type 0
-GivesLines (Ok s) script =
-    (lines_below script Initial [] script.initial ≡ Ok s.lines) × IsSettled script s
-GivesLines (Err (lower.Meaning fault)) script = lines_below script Initial [] script.initial ≡ Err fault
+GivesLines (Ok s) script = (all_lines script ≡ Ok s.lines) × IsSettled script s
+GivesLines (Err (lower.Meaning fault)) script = all_lines script ≡ Err fault
 GivesLines (Err lower.Unbuilt) script = ⊥
 GivesLines (Err lower.Memory) script = ⊤
 
@@ -197,33 +202,3 @@ SettlesScript (Ok s) script = (meaning script ≡ Ok s.lines) × IsSettled scrip
 SettlesScript (Err (lower.Meaning fault)) script = meaning script ≡ Err fault
 SettlesScript (Err lower.Unbuilt) script = ⊥
 SettlesScript (Err lower.Memory) script = ⊤
-
--- ---- operations
-
--- the operations of an expression were added in post-order, numbered from the first of their statement on
-pub record ListsTree (old new : List Operation) (statement first : ℕ) (t : Tree) : Type 0 where
-  pub count : length new ≡ length old + operations_of t
-  pub listed : map as_listed new ≡ map as_listed old ++ numbered_operations statement (length old - first + 1) (post_order t)
-
--- an operation of this kind, which is the next of its statement below so many operations
-pub record IsOperationOn (o : Operation) (op : Op) (kind : Kind) (at : At) (below : ℕ) : Type 0 where
-  pub op_is : o.op ≡ op
-  pub kind_is : o.kind ≡ kind
-  pub statement : o.statement ≡ at.statement
-  pub number : o.number ≡ below - at.first + 1
-  pub kept : o.kept ≡ at.kept
-
--- ---- statements and programs
-
--- The operations of a statement were written, with its output where it reports.
-pub record WritesLine (ops : List Operation) (outputs : List OutputUse)
-    (new_ops : List Operation) (new_outputs : List OutputUse) (bound : Bound) (statement : ℕ) (l : Line) : Type 0 where
-  pub count : length new_ops ≡ length ops + operations_of l.statement.value
-  pub listed_in : map as_listed new_ops ≡ map as_listed ops ++ numbered_operations statement 1 (post_order l.statement.value)
-  pub outputs_in : new_outputs ≡ outputs ++ output_of bound statement (length ops + operations_of l.statement.value) l
-
--- what was written of all statements
-pub record IsLineWritten (w : Written) (bound : Bound) (lines : List Line) : Type 0 where
-  pub count : length w.ops ≡ total_operations lines
-  pub listed_in : map as_listed w.ops ≡ operations_from 1 lines
-  pub outputs_in : w.outputs ≡ outputs_from bound 1 0 lines

@@ -1,22 +1,48 @@
 -- Whether settled statements fit where they stand.
-use Rattle.std.specs.Prelude.{◌≡◌, ◌<◌, List, [], ◌∷◌, ◌++◌, true, ⊤}
+use Rattle.std.specs.Prelude.{◌≡◌, ◌<◌, ℕ, Bool, true, List, [], ◌∷◌, ◌++◌, Option, None, IfSome, if◌then◌else◌, ⊤}
+use Rattle.std.specs.Option.{is_some}
+use Rattle.cell_values.specs.declared.kind.Kind.{Kind}
+use Rattle.script_syntax.specs.declared.tree.Script.{Script}
 use Rattle.map_meaning.specs.declared.program.InputUse.{InputUse}
 use Rattle.map_meaning.specs.Trees.{meaning_of}
 use Rattle.script_types.specs.declared.typed.Line.{Line}
-use Rattle.script_types.specs.Statements.{kind_above, operations_of}
-use Rattle.script_types.specs.inside.Fits.{Ground, fits}
+use Rattle.script_types.specs.declared.typed.Section.{Section}
+use Rattle.script_types.specs.declared.typed.Section.TheVariants.{Dynamic}
+use Rattle.script_types.specs.Lowered.{inputs_of}
+use Rattle.script_types.specs.Names.{is_sampled}
+use Rattle.script_types.specs.Statements.{is_dynamic, kind_above, operations_of}
+use Rattle.script_types.specs.inside.Fits.{Ground, fits, is_ids}
 
--- what names are below these statements, over these inputs
-abbrev pub ground_below : List InputUse → List Line → Ground
-ground_below inputs above = record { inputs = inputs; above = kind_above above }
+-- the inputs of a program, and the names that are targets of time series, which are not read
+pub record Frame : Type 0 where
+  pub inputs : List InputUse
+  pub sampled : List ℕ → Bool
 
--- the right side of a statement fits where it stands, has the kind of the statement, and has an operation
-pub record LineFits (g : Ground) (l : Line) : Type 0 where
-  pub value : fits g l.statement.value ≡ true
+-- what a script's statements stand in
+abbrev pub script_frame : Script → Frame
+script_frame script = record { inputs = inputs_of script; sampled = is_sampled script }
+
+-- the kind that a name has below some statements, where it may be read
+abbrev pub readable : (List ℕ → Bool) → List Line → List ℕ → Option Kind
+readable sampled above name = if sampled name then None else kind_above above name
+
+-- what names are in a section below some statements
+abbrev pub ground_at : Frame → Section → List Line → Ground
+ground_at frame section above =
+    record { inputs = frame.inputs; above = readable frame.sampled above; in_steps = is_dynamic section }
+
+-- A statement fits below others: its right side fits where it stands, and has the kind of the statement, which is also the
+-- kind of the statements above with its target; it has an operation, or is sampled in `dynamic` at a map of ids.
+pub record LineFits (frame : Frame) (above : List Line) (l : Line) : Type 0 where
+  pub value : fits (ground_at frame l.section above) l.statement.value ≡ true
   pub kind : (meaning_of l.statement.value).kind ≡ l.kind
-  pub operation : 0 < operations_of l.statement.value
+  pub agrees : IfSome (kind_above above l.statement.target) (λ kind. kind ≡ l.kind)
+  pub operation : l.sample ≡ None → 0 < operations_of l.statement.value
+  pub ids : IfSome l.sample (λ ids. is_ids frame.inputs ids ≡ true)
+  pub sampled : is_some l.sample ≡ true → frame.sampled l.statement.target ≡ true
+  pub in_steps : is_some l.sample ≡ true → l.section ≡ Dynamic
 
 -- each of some statements fits below those above it
-abbrev pub LinesFit : List InputUse → List Line → List Line → Type 0
-LinesFit inputs above [] = ⊤
-LinesFit inputs above (l ∷ ls) = LineFits (ground_below inputs above) l × LinesFit inputs (above ++ l ∷ []) ls
+abbrev pub LinesFit : Frame → List Line → List Line → Type 0
+LinesFit frame above [] = ⊤
+LinesFit frame above (l ∷ ls) = LineFits frame above l × LinesFit frame (above ++ l ∷ []) ls

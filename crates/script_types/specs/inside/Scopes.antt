@@ -23,9 +23,12 @@ scope_of s = record {
   steps = s.steps;
   binding = binding_in s;
   is_assigned = λ name. is_some (look s.targets.values name);
+  is_sampled = λ name. is_some (look s.samples.values name);
   role = look s.roles.values;
   input = look s.inputs.values;
   above = look s.above.values;
+  stacks_written = s.stacks_written;
+  stacks_read = s.stacks_read;
 }
 
 -- an answer gives the value, or its first fault, or there was no memory

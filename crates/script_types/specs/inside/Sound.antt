@@ -2,6 +2,7 @@
 use Rattle.std.specs.Prelude.{ℕ, ◌+◌, ◌&&◌, Bool, true, List, [], ◌∷◌, length, map}
 use Rattle.std.specs.List.{list_all}
 use Rattle.cell_values.specs.declared.kind.Kind.{Kind}
+use Rattle.cell_values.specs.declared.kind.Kind.TheVariants.{Scalar}
 use Rattle.cell_values.specs.declared.cell.Cell.{Cell}
 use Rattle.cell_values.specs.declared.cell.Cell.TheVariants.{Mv, Val}
 use Rattle.cell_values.specs.Kinds.{is_value}
@@ -9,7 +10,7 @@ use Rattle.map_meaning.specs.declared.row.Row.{Row}
 use Rattle.map_meaning.specs.declared.tree.Tree.{Tree}
 use Rattle.map_meaning.specs.declared.tree.Tree.TheFolds.{fold-Tree}
 use Rattle.map_meaning.specs.declared.tree.Tree.TheOpen.{Tree-F}
-use Rattle.map_meaning.specs.Table.{allows, ask_at, common_kind, given_kind, has_count, is_kind, row_of}
+use Rattle.map_meaning.specs.Table.{allows, ask_at, common_kind, given_kind, has_count, is_kind, map_row, row_of}
 use Rattle.script_types.specs.declared.typed.Line.{Line}
 
 -- operands of these kinds may stand at the places from the i-th on
@@ -36,10 +37,14 @@ pub record Checked : Type 0 where
 -- an expression, from its operands
 abbrev pub checked_level : Tree-F Checked → Checked
 checked_level (Tree-F.Number kind cell) = record { kind = kind; sound = is_cell kind cell }
+checked_level Tree-F.Time = record { kind = Scalar; sound = true }
 checked_level (Tree-F.Input kind n) = record { kind = kind; sound = true }
+checked_level (Tree-F.Stack kind n) = record { kind = kind; sound = true }
 checked_level (Tree-F.Name kind name) = record { kind = kind; sound = true }
 checked_level (Tree-F.Call kind op operands) =
     record { kind = kind; sound = list_all (λ c. c.sound) operands && has_kinds (row_of op) (map (λ c. c.kind) operands) kind }
+checked_level (Tree-F.LookUp kind op file operands) =
+    record { kind = kind; sound = list_all (λ c. c.sound) operands && has_kinds (map_row (row_of op)) (map (λ c. c.kind) operands) kind }
 
 -- an expression with its kind
 unfoldable pub checked : Tree → Checked

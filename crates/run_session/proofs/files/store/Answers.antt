@@ -13,6 +13,9 @@ returns-in-Failed g c =
     let state = g.F.Folder.state in
     let old = state c.args.folder.now in
     let new = state c.put.new.self in
-    subst (λ word. Meets (why_by why) (putting c.args.name.now c.args.bytes.now) old new (CutOff (WriteFault word))) (sym c.in-Ok.ensures)
-    (meets_put_failed why c.args.name.now c.args.bytes.now old new c.in-Err.ensures.keeps
-    (subst (PutRefused old new c.args.name.now) c.in-Failed.is c.in-Err.ensures.answer))
+    record {
+      meets = subst (λ word. Meets (why_by why) (putting c.args.name.now c.args.bytes.now) old new (CutOff (WriteFault word))) (sym c.in-Ok.ensures)
+          (meets_put_failed why c.args.name.now c.args.bytes.now old new c.in-Err.ensures.keeps
+          (subst (PutRefused old new c.args.name.now) c.in-Failed.is c.in-Err.ensures.answer));
+      apart = tt;
+    }

@@ -21,4 +21,4 @@ returns-in-Err-clause-meets g c many counts =
     (subst P (stop_is_end o) (meets_end_as (why_by why) why script_end why_same (whole_run many c.args.name.now) old new (stopped_by o) (c.in-Err.ensures.meets many counts)))
 
 pub returns-in-Err-clause-asked : goal.returns-in-Err-clause-asked
-returns-in-Err-clause-asked g c asked = undone c.session_end.result (WasAsked (g.R.BlockRunner.asked c.run_named.new.runner) (g.R.BlockRunner.block_of c.args.runner.now) c.args.name.now (g.F.Folder.state c.args.folder.now).holds) c.session_end.ensures.stopped
+returns-in-Err-clause-asked g c block asked = undone c.session_end.result (WasAsked (g.R.BlockRunner.asked c.run_named.new.runner) c.args.name.now (g.F.Folder.state c.args.folder.now).holds) c.session_end.ensures.stopped

@@ -1,100 +1,109 @@
--- The ways out of the section `initial`.
-use Rattle.std.proofs.Common.{◌≡◌, length, map, refl, sym, ap, ◌∙◌}
-use Rattle.std.proofs.lemmas.List.{length-map}
-use Rattle.std.specs.Prelude.{Ok, Result}
+-- The ways out of what was read.
+use Rattle.std.proofs.Common.{◌≡◌, sym, ap, subst, ◌∙◌, Ok}
+use Rattle.std.specs.Prelude.{None}
+use Rattle.outside_io.specs.Runs.{settled}
+use Rattle.outside_io.specs.Causes.{CameTo, stopped_by, why_by}
+use Rattle.outside_io.specs.Met.{Meets}
+use Rattle.outside_io.proofs.Callers.{meets_no_memory, meets_on, meets_out, meets_settled, meets_stop, read_keeps_all}
+use Rattle.map_meaning.specs.declared.program.Program.{Program}
+use Rattle.run_session.specs.declared.ends.Stop.TheVariants.{Memory}
 use Rattle.run_session.specs.declared.ends.Tally.{Tally}
-use Rattle.outside_io.specs.Runs.{in_turn, settled}
-use Rattle.outside_io.specs.Causes.{CameTo, why_by}
-use Rattle.outside_io.proofs.Callers.{meets_on, meets_out, meets_settled, meets_stop}
-use Rattle.run_session.specs.Course.{or_overflow, or_too_many, report_run, start_run}
-use Rattle.run_session.specs.Ends.{ScriptEnd, why}
+use Rattle.run_session.specs.declared.inputs.Inputs.{Inputs}
+use Rattle.run_session.specs.Course.{or_too_many, start_run}
+use Rattle.run_session.specs.Ends.{why}
+use Rattle.run_session.specs.Steps.{plan_run, tallied}
 use Rattle.run_session.specs.inside.Parts.{stop_outcome}
-use Rattle.run_session.specs.inside.Parts.{kept_written, outputs_over, tally_of}
-use Rattle.run_session.proofs.Rest.{after_count, after_reports, ready_knows}
-use Rattle.run_session.proofs.Stage.{stage_ascends, stage_kept, stage_reports, stage_stops}
+use Rattle.run_session.specs.inside.Running.{AsksAll}
+use Rattle.run_session.specs.inside.Standings.{program_plan}
+use Rattle.run_session.specs.inside.Tallies.{files_put, tally_of}
+use Rattle.run_session.proofs.PlanTally.{plan_puts}
+use Rattle.run_session.proofs.Rest.{after_count}
+use Rattle.run_session.proofs.Tallies.{tallied_ends, tallied_stops}
 use Rattle.run_session.proofs.session.run_start.Goals as goal
 
 pub returns-in_err-admitted-clause-meets : goal.returns-in_err-admitted-clause-meets
 returns-in_err-admitted-clause-meets g c =
     let state = g.F.Folder.state c.args.folder.now in
-    let program = c.args.program.now.value in
-    let frame = c.args.inputs.frame in
-    let many = g.R.BlockRunner.admits c.args.runner.now program frame.rows frame.cols in
-    let reports = outputs_over program c.args.inputs in
+    let program = c.args.program.value in
+    let inputs = c.args.inputs in
+    let many = g.R.BlockRunner.admits c.args.runner.now program inputs.frame.rows inputs.frame.cols in
+    let plan = program_plan program inputs in
     let settles = rw c.deref.ensures at c.in_err-admitted.ensures.settles in
-    meets_out why (start_run many reports program.steps frame) _ stop_outcome _ c.from_residual.result _ c.from_residual.ensures.1
-    (meets_stop why (settled (or_too_many many)) (after_count reports program.steps frame) _ _ (stop_outcome _)
+    meets_out why (start_run many plan) _ stop_outcome _ c.from_residual.result _ c.from_residual.ensures.1
+    (meets_stop why (settled (or_too_many many)) (after_count plan) _ _ (stop_outcome _)
     (meets_settled (why_by why) (or_too_many many) state _ settles))
 
-pub returns-in_err-kept-clause-meets : goal.returns-in_err-kept-clause-meets
-returns-in_err-kept-clause-meets g c =
+pub returns-in_err-work-clause-meets : goal.returns-in_err-work-clause-meets
+returns-in_err-work-clause-meets g c =
     let state = g.F.Folder.state c.args.folder.now in
-    let program = c.args.program.now.value in
-    let frame = c.args.inputs.frame in
-    let many = g.R.BlockRunner.admits c.args.runner.now program frame.rows frame.cols in
-    let reports = outputs_over program c.args.inputs in
+    let program = c.args.program.value in
+    let inputs = c.args.inputs in
+    let many = g.R.BlockRunner.admits c.args.runner.now program inputs.frame.rows inputs.frame.cols in
+    let plan = program_plan program inputs in
     let settles = rw c.deref.ensures at c.in_ok-admitted.ensures.settles in
-    let value = rw (c.new.ensures, c.new-2.ensures, c.new-3.ensures, c.new-4.ensures, c.new-5.ensures) at c.in_err-kept.ensures.settles in
-    meets_out why (start_run many reports program.steps frame) _ stop_outcome _ c.from_residual-in_err-kept.result _ c.from_residual-in_err-kept.ensures.1
-    (meets_on why (settled (or_too_many many)) (after_count reports program.steps frame) _ _ _ tt _
+    meets_out why (start_run many plan) _ stop_outcome _ c.from_residual-in_err-work.result Memory c.from_residual-in_err-work.ensures.1
+    (meets_on why (settled (or_too_many many)) (after_count plan) _ _ _ tt _
     (meets_settled (why_by why) (or_too_many many) state (CameTo (Ok tt)) settles)
-    (meets_stop why (settled (or_overflow reports)) (after_reports program.steps frame) _ _ (stop_outcome _)
-    (meets_settled (why_by why) (or_overflow reports) state _ (stage_stops program c.args.inputs (stop_outcome _) value))))
+    (meets_no_memory (why_by why) (after_count plan tt) _ _ (read_keeps_all _)))
 
-pub returns-in_err-put_reports-clause-meets : goal.returns-in_err-put_reports-clause-meets
-returns-in_err-put_reports-clause-meets g c =
+pub returns-in_err-run_plan-clause-meets : goal.returns-in_err-run_plan-clause-meets
+returns-in_err-run_plan-clause-meets g c =
     let state = g.F.Folder.state c.args.folder.now in
-    let program = c.args.program.now.value in
-    let frame = c.args.inputs.frame in
-    let many = g.R.BlockRunner.admits c.args.runner.now program frame.rows frame.cols in
-    let reports = outputs_over program c.args.inputs in
-    let kept = c.in_ok-kept.kept in
-    let all = map (kept_written kept) program.outputs in
+    let after = g.F.Folder.state c.run_plan.new.folder in
+    let program = c.args.program.value in
+    let inputs = c.args.inputs in
+    let work = c.in_ok-work.work in
+    let many = g.R.BlockRunner.admits c.args.runner.now program inputs.frame.rows inputs.frame.cols in
+    let plan = program_plan program inputs in
     let settles = rw c.deref.ensures at c.in_ok-admitted.ensures.settles in
-    let value = rw (c.new.ensures, c.new-2.ensures, c.new-3.ensures, c.new-4.ensures, c.new-5.ensures) at c.in_ok-kept.ensures.settles in
-    let puts = rw (c.as_slice.ensures, c.as_slice-outputs.ensures, c.deref-2.ensures) at c.in_err-put_reports.ensures in
-    let reported = stage_reports program c.args.inputs c.requires.program c.requires.start (ready_knows program c.args.inputs c.requires.start c.requires.inputs) kept value.0 in
-    meets_out why (start_run many reports program.steps frame) _ stop_outcome _ c.from_residual-in_err-put_reports.result _ c.from_residual-in_err-put_reports.ensures.1
-    (meets_on why (settled (or_too_many many)) (after_count reports program.steps frame) _ _ _ tt _
+    let o = stop_outcome c.in_err-run_plan.field-0.0 in
+    let P : Program → Inputs → Type 0 = λ p i. Meets (why_by why) (plan_run (program_plan p i)) state after (stopped_by o) in
+    let stops = subst (λ i. P program i) c.in_ok-work.ensures.inputs (subst (λ p. P p work.inputs) c.in_ok-work.ensures.program c.in_err-run_plan.ensures.meets) in
+    meets_out why (start_run many plan) _ stop_outcome _ c.from_residual-in_err-run_plan.result _ c.from_residual-in_err-run_plan.ensures.1
+    (meets_on why (settled (or_too_many many)) (after_count plan) _ _ _ tt _
     (meets_settled (why_by why) (or_too_many many) state (CameTo (Ok tt)) settles)
-    (meets_on why (settled (or_overflow reports)) (after_reports program.steps frame) _ _ _ all _
-    (meets_settled (why_by why) (or_overflow reports) state (CameTo (Ok all)) (ap or_overflow reported, refl))
-    (meets_stop why (in_turn (report_run frame) tt all) (λ done. settled (Ok (tally_of (length all) program.steps))) _ _ (stop_outcome _) puts)))
+    (tallied_stops (plan_run plan) program.steps state after o stops))
 
 pub returns-clause-meets : goal.returns-clause-meets
 returns-clause-meets g c =
     let state = g.F.Folder.state c.args.folder.now in
-    let after = g.F.Folder.state c.put_reports.new.folder in
-    let program = c.args.program.now.value in
-    let frame = c.args.inputs.frame in
-    let many = g.R.BlockRunner.admits c.args.runner.now program frame.rows frame.cols in
-    let reports = outputs_over program c.args.inputs in
-    let kept = c.in_ok-kept.kept in
-    let all = map (kept_written kept) program.outputs in
+    let after = g.F.Folder.state c.run_plan.new.folder in
+    let program = c.args.program.value in
+    let inputs = c.args.inputs in
+    let work = c.in_ok-work.work in
+    let many = g.R.BlockRunner.admits c.args.runner.now program inputs.frame.rows inputs.frame.cols in
+    let plan = program_plan program inputs in
     let settles = rw c.deref.ensures at c.in_ok-admitted.ensures.settles in
-    let value = rw (c.new.ensures, c.new-2.ensures, c.new-3.ensures, c.new-4.ensures, c.new-5.ensures) at c.in_ok-kept.ensures.settles in
-    let puts = rw (c.as_slice.ensures, c.as_slice-outputs.ensures, c.deref-2.ensures) at c.in_ok-put_reports.ensures in
-    let reported = stage_reports program c.args.inputs c.requires.program c.requires.start (ready_knows program c.args.inputs c.requires.start c.requires.inputs) kept value.0 in
-    let done = rw c.deref-3.ensures at c.tally.ensures in
-    let P : Tally → Result Tally ScriptEnd = λ t. Ok t in
-    let is : P (tally_of (length all) program.steps) ≡ P c.tally.result = ap P (ap (λ n. tally_of n program.steps) (length-map program.outputs (kept_written kept)) ∙ sym done) in
-    meets_on why (settled (or_too_many many)) (after_count reports program.steps frame) _ _ _ tt _
+    let made = c.in_ok-run_plan.ensures.meets in
+    let t = made.0 in
+    let P : Program → Inputs → Type 0 = λ p i. Meets (why_by why) (plan_run (program_plan p i)) state after (CameTo (Ok t)) in
+    let ends = subst (λ i. P program i) c.in_ok-work.ensures.inputs (subst (λ p. P p work.inputs) c.in_ok-work.ensures.program made.2) in
+    let is : tally_of (files_put program) program.steps ≡ c.tally.result = ap (λ (p : Program). tally_of (files_put p) p.steps) (sym c.in_ok-work.ensures.program) ∙ sym c.tally.ensures in
+    let told = tallied_ends (plan_run plan) program.steps state after (files_put program) t (plan_puts program inputs) ends in
+    meets_on why (settled (or_too_many many)) (after_count plan) _ _ _ tt _
     (meets_settled (why_by why) (or_too_many many) state (CameTo (Ok tt)) settles)
-    (meets_on why (settled (or_overflow reports)) (after_reports program.steps frame) _ _ _ all _
-    (meets_settled (why_by why) (or_overflow reports) state (CameTo (Ok all)) (ap or_overflow reported, refl))
-    (meets_on why (in_turn (report_run frame) tt all) (λ done. settled (Ok (tally_of (length all) program.steps))) _ _ _ tt _ puts
-    (meets_settled (why_by why) (Ok (tally_of (length all) program.steps)) after (CameTo (Ok c.tally.result)) (is, refl))))
+    (subst (λ (tally : Tally). Meets (why_by why) (tallied program.steps (plan_run plan)) state after (CameTo (Ok tally))) is told)
 
-pub put_reports-requires-clause-kept : goal.put_reports-requires-clause-kept
-put_reports-requires-clause-kept g c =
-    let value = rw (c.new.ensures, c.new-2.ensures, c.new-3.ensures, c.new-4.ensures, c.new-5.ensures) at c.in_ok-kept.ensures.settles in
-    rw (c.as_slice.ensures, c.as_slice-outputs.ensures, c.deref-2.ensures) (stage_kept c.args.program.now.value c.args.inputs c.requires.program c.requires.start (ready_knows c.args.program.now.value c.args.inputs c.requires.start c.requires.inputs) c.in_ok-kept.kept value.0)
+pub returns-clause-run : goal.returns-clause-run
+returns-clause-run g c =
+    let state = g.F.Folder.state c.args.folder.now in
+    let after = g.F.Folder.state c.run_plan.new.folder in
+    let program = c.args.program.value in
+    let work = c.in_ok-work.work in
+    let made = c.in_ok-run_plan.ensures.meets in
+    let t = made.0 in
+    let asked = g.R.BlockRunner.asked in
+    let P : Program → Inputs → Type 0 = λ p i. Meets (why_by why) (plan_run (program_plan p i)) state after (CameTo (Ok t)) in
+    let A : Program → Inputs → Type 0 = λ p i. AsksAll (asked c.args.runner.now) (asked c.run_plan.new.runner) p i t.grids in
+    record {
+      standing = t;
+      meets = subst (λ i. P program i) c.in_ok-work.ensures.inputs (subst (λ p. P p work.inputs) c.in_ok-work.ensures.program made.2);
+      asks = subst (λ i. A program i) c.in_ok-work.ensures.inputs (subst (λ p. A p work.inputs) c.in_ok-work.ensures.program made.1);
+    }
 
-pub put_reports-requires-clause-ascend : goal.put_reports-requires-clause-ascend
-put_reports-requires-clause-ascend g c =
-    let value = rw (c.new.ensures, c.new-2.ensures, c.new-3.ensures, c.new-4.ensures, c.new-5.ensures) at c.in_ok-kept.ensures.settles in
-    rw (c.as_slice.ensures) (stage_ascends c.args.program.now.value c.args.inputs c.requires.program c.requires.start (ready_knows c.args.program.now.value c.args.inputs c.requires.start c.requires.inputs) c.in_ok-kept.kept value.0)
-
-pub evaluate-requires-clause-known : goal.evaluate-requires-clause-known
-evaluate-requires-clause-known g c =
-    rw (c.new.ensures, c.new-2.ensures, c.new-3.ensures, c.new-4.ensures, c.new-5.ensures) (ready_knows c.args.program.now.value c.args.inputs c.requires.start c.requires.inputs)
+pub run_plan-requires-clause-admitted : goal.run_plan-requires-clause-admitted
+run_plan-requires-clause-admitted g c =
+    let work = c.in_ok-work.work in
+    let N : Program → Inputs → Type 0 = λ p i. g.R.BlockRunner.admits c.args.runner.now p i.frame.rows i.frame.cols ≡ None in
+    let none : N c.args.program.value c.args.inputs = rw c.deref.ensures at c.in_ok-admitted.ensures.none in
+    subst (λ p. N p work.inputs) (sym c.in_ok-work.ensures.program) (subst (λ i. N c.args.program.value i) (sym c.in_ok-work.ensures.inputs) none)

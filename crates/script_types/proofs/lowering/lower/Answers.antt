@@ -1,7 +1,10 @@
 use Rattle.std.proofs.Common.{sym, ◌∙◌}
-use Rattle.script_types.proofs.FormedPrograms.{formed-program}
+use Rattle.script_types.proofs.FormedPrograms.{formed-program, has-values, program-of}
 use Rattle.script_types.proofs.LowerLemmas.{lowers-fault}
-use Rattle.script_types.proofs.SettledFits.{lines-fit, lines-sound}
+use Rattle.script_types.specs.Lowered.{inputs_of}
+use Rattle.script_types.proofs.ProgramLemmas.{all-suit}
+use Rattle.script_types.proofs.SectionLines.{lines-order}
+use Rattle.script_types.proofs.SettledInputs.{inputs-suit}
 use Rattle.script_types.proofs.lowering.lower.Goals as goal
 
 pub returns-in-Err : goal.returns-in-Err
@@ -14,11 +17,18 @@ returns-in-Ok-program_of c =
     let built = sym c.is_unbuilt.ensures ∙ c.if-is_unbuilt.false in
     let meant = c.in-Ok.ensures.0 in
     let settled = c.in-Ok.ensures.1 in
+    let w = c.in-Ok-program_of.ensures in
     record {
       built = built;
       lines = lines;
       meant = meant;
-      program_of = c.in-Ok-program_of.ensures.program;
-      values = c.in-Ok-program_of.ensures.values (lines-fit script lines built meant);
-      formed = formed-program script lines _ c.requires built meant settled.few c.in-Ok-program_of.ensures.program (c.in-Ok-program_of.ensures.formed (lines-fit script lines built meant) (lines-sound script lines built meant));
+      program_of = program-of script lines _ c.requires built meant settled.few_initial settled.few_dynamic w;
+      values = has-values script lines _ c.requires built meant settled.few_initial settled.few_dynamic w;
+      formed = formed-program script lines _ c.requires built meant settled.few_initial settled.few_dynamic w;
     }
+
+pub program_of-requires-clause-ordered : goal.program_of-requires-clause-ordered
+program_of-requires-clause-ordered c = (lines-order c.args.script.now c.in-Ok.settled.lines c.in-Ok.ensures.0).split
+
+pub program_of-requires-clause-suit : goal.program_of-requires-clause-suit
+program_of-requires-clause-suit c = all-suit (inputs_of c.args.script.now) (inputs-suit c.args.script.now c.in-Ok.settled.lines (sym c.is_unbuilt.ensures ∙ c.if-is_unbuilt.false) c.in-Ok.ensures.0)

@@ -11,7 +11,7 @@ pub returns-in-Err-lines_of : goal.returns-in-Err-lines_of
 returns-in-Err-lines_of c = settles-lines c.args.script.now c.in-Err-lines_of.end c.in-Ok.ensures.0 c.in-Ok-check_area.ensures c.in-Err-lines_of.ensures
 
 pub returns-in-Err-check_files : goal.returns-in-Err-check_files
-returns-in-Err-check_files c = settles-reports c.args.script.now c.in-Err-check_files.end c.in-Ok-lines_of.settled c.in-Ok.ensures.0 c.in-Ok-check_area.ensures c.requires.one_section c.in-Ok-lines_of.ensures c.in-Err-check_files.ensures
+returns-in-Err-check_files c = settles-reports c.args.script.now c.in-Err-check_files.end c.in-Ok-lines_of.settled c.in-Ok.ensures.0 c.in-Ok-check_area.ensures c.in-Ok-lines_of.ensures c.in-Err-check_files.ensures
 
 pub returns : goal.returns
-returns c = settles-all c.args.script.now c.in-Ok-lines_of.settled c.in-Ok.ensures.0 c.in-Ok-check_area.ensures c.requires.one_section c.in-Ok-lines_of.ensures c.in-Ok-check_files.ensures
+returns c = settles-all c.args.script.now c.in-Ok-lines_of.settled c.in-Ok.ensures.0 c.in-Ok-check_area.ensures c.in-Ok-lines_of.ensures c.in-Ok-check_files.ensures
