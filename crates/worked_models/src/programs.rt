@@ -326,8 +326,10 @@ fn expect_output(rt: &impl Abort, output: &OutputUse, row: &Put) -> Result<(), F
 #[test]
 fn operations_of_both_sections(rt: HostRuntime) -> Result<(), Fail> {
     let program = program_at(rt.alloc(), SCRIPT)?;
-    expect_operations(&rt, program.initial.as_slice(), &INITIAL)?;
-    expect_operations(&rt, program.dynamic.as_slice(), &DYNAMIC)
+    let initial = INITIAL;
+    let dynamic = DYNAMIC;
+    expect_operations(&rt, program.initial.as_slice(), &initial)?;
+    expect_operations(&rt, program.dynamic.as_slice(), &dynamic)
 }
 
 #[test]
