@@ -25,7 +25,8 @@ const SUM: &str =
     "binding R = r.tss; Id = id.asc : nominal; areamap Id; timer 1 4 1; initial report Start = 1; S = Start; \
     dynamic report S = S + timeinputscalar(R, Id); report T = timeoutput(Id, S); report N = timeoutput(Id, Id);";
 
-static CASES: [Case; 38] = [
+/// Stacks that are read and written, and ends within a step.
+static STACKS: [Case; 7] = [
     // a sum over the steps
     (
         "binding R = r.tss; Id = id.asc : nominal; areamap Id; timer 1 3 1; initial S = 0; \
@@ -97,6 +98,10 @@ static CASES: [Case; 38] = [
         "input heat0000.002 grid range 51\n",
         &[("E0000000.001", "6"), ("O0000000.001", "5")],
     ),
+];
+
+/// Lookups, and samples of every sort of leaf.
+static SAMPLES: [Case; 6] = [
     // a lookup table in `initial`
     (
         "binding A = a.asc; T = t.tbl; areamap A; initial report C = lookupscalar(T, A);",
@@ -208,6 +213,10 @@ static CASES: [Case; 38] = [
         "done files=1 steps=2\n",
         &[("T", "timeseries scalar\n1\ntimestep\n1\n2\n")],
     ),
+];
+
+/// Series, and what names have from the step before.
+static SERIES: [Case; 5] = [
     // two maps of ids; series are put in the order of their statements, behind the last step
     (
         "binding Id = id.asc : nominal; Ok = ok.asc : boolean; areamap Id; timer 1 2 1; \
@@ -273,6 +282,10 @@ static CASES: [Case; 38] = [
             ("E0000000.002", "1 1e31"),
         ],
     ),
+];
+
+/// Sections that are left out, columns that are not there, and results out of range in a step.
+static SECTIONS: [Case; 6] = [
     // no section `initial`, and an area map that is one of the grids of a stack
     (
         "binding P = rain : nominal; areamap rain0000.002; timer 1 2 1; dynamic report O = timeinput(P) == 5;",
@@ -357,6 +370,10 @@ static CASES: [Case; 38] = [
             1 col 1\n",
         &[("T", "timeseries scalar\n2\ntimestep\n1\n")],
     ),
+];
+
+/// Results out of range in order, maps of several rows, and grids that are not there.
+static OVERFLOWS: [Case; 6] = [
     // an overflow in step 0: nothing
     (
         "binding Id = id.asc : nominal; areamap Id; timer 1 2 1; initial report S = 1; Big = 9000000000000 + S; \
@@ -441,6 +458,10 @@ static CASES: [Case; 38] = [
         "missing rain0000.001\n",
         &[("T", "timeseries scalar\n2\ntimestep\n1\n")],
     ),
+];
+
+/// Tables and series that are none, and the names that a timer leaves.
+static FAULTS: [Case; 8] = [
     // an overflow of `initial` comes before a grid that is not there
     (
         "binding P = rain; Id = id.asc : nominal; areamap Id; timer 1 1 1; initial X = 9000000000000 * 2; \
@@ -510,7 +531,6 @@ static CASES: [Case; 38] = [
         &[],
     ),
 ];
-
 // A script ends so, over these files.
 fn expect_case(rt: &impl Abort, alloc: Global, case: &Case) -> Result<(), Fail> {
     let mut folder = folder_with(alloc, case.0, case.1)?;
@@ -519,8 +539,48 @@ fn expect_case(rt: &impl Abort, alloc: Global, case: &Case) -> Result<(), Fail> 
 }
 
 #[test]
-fn runs_step_by_step(rt: HostRuntime) -> Result<(), Fail> {
-    for case in &CASES {
+fn reads_stacks_at_their_steps(rt: HostRuntime) -> Result<(), Fail> {
+    for case in &STACKS {
+        expect_case(&rt, rt.alloc(), case)?;
+    }
+    Ok(())
+}
+
+#[test]
+fn looks_up_and_samples(rt: HostRuntime) -> Result<(), Fail> {
+    for case in &SAMPLES {
+        expect_case(&rt, rt.alloc(), case)?;
+    }
+    Ok(())
+}
+
+#[test]
+fn carries_names_and_puts_series(rt: HostRuntime) -> Result<(), Fail> {
+    for case in &SERIES {
+        expect_case(&rt, rt.alloc(), case)?;
+    }
+    Ok(())
+}
+
+#[test]
+fn keeps_the_rows_of_settled_steps(rt: HostRuntime) -> Result<(), Fail> {
+    for case in &SECTIONS {
+        expect_case(&rt, rt.alloc(), case)?;
+    }
+    Ok(())
+}
+
+#[test]
+fn tells_the_first_end_of_a_step(rt: HostRuntime) -> Result<(), Fail> {
+    for case in &OVERFLOWS {
+        expect_case(&rt, rt.alloc(), case)?;
+    }
+    Ok(())
+}
+
+#[test]
+fn tells_faulty_tables_and_series(rt: HostRuntime) -> Result<(), Fail> {
+    for case in &FAULTS {
         expect_case(&rt, rt.alloc(), case)?;
     }
     Ok(())
