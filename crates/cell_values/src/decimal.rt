@@ -34,6 +34,7 @@ impl Parts<'_> {
     ghost use Rattle.cell_values.specs.inside.Parts.{decimal_with, row_digits};
 
     /// The parts of the text, where it is a decimal.
+    #[inline(always)]
     pub(crate) fn of(text: &[u8]) -> Option<Parts<'_>>
         ensures { option_map decimal_with result ≡ decimal_of text.now }
     {

@@ -48,6 +48,7 @@ fn half_behind(back: &Row<'_>, fallen: usize, top: usize) -> bool
 }
 
 // The size of a decimal in units of 10 to the power of `-places`, where the whole units have at most 64 bits.
+#[inline(always)]
 fn cut_at(parts: &Parts<'_>, places: usize) -> Option<Cut>
     requires { places ≤ decimal_places }
     ensures { let d = decimal_with parts.now in MatchOption result
