@@ -95,6 +95,7 @@ fn print_millionths(value: i64, into: &mut Vec<u8>) -> Result<(), AllocError>
 
 /// Appends the one text of a cell of a kind: `1e31` for a missing value, else a whole number, or for
 /// scalars and directions the shortest decimal of the millionths. A refusal leaves `into` as before.
+#[inline(always)]
 pub fn print_cell(
     _alloc: Global,
     kind: Kind,
