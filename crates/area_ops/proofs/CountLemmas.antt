@@ -17,9 +17,9 @@ use Rattle.std.proofs.lemmas.Map.Keys.{IsDistinct-from_sorted}
 use Rattle.std.proofs.lemmas.Map.Lookups.{exact_pairs, exact_signed}
 use Rattle.cell_values.specs.declared.cell.Cell.{Cell}
 use Rattle.cell_values.specs.declared.cell.Cell.TheVariants.{Mv, Val}
-use Rattle.area_ops.specs.declared.op.AreaOp.{AreaOp}
-use Rattle.area_ops.specs.Areas.{AreaPlace, numbers_of, taken, taken_by_class}
-use Rattle.area_ops.specs.Frequency.{occurrences}
+use Rattle.region_meaning.specs.declared.area.AreaOp.{AreaOp}
+use Rattle.region_meaning.specs.Areas.{AreaPlace, numbers_of, taken, taken_by_class}
+use Rattle.region_meaning.specs.AreaFrequency.{occurrences}
 use Rattle.area_ops.specs.inside.Counts.{AreCounts, Member, count_in, count_of_option, count_seen, member_cmp, times_given}
 use Rattle.area_ops.proofs.MajorityLemmas.{occurrences-append, occurrences-cons}
 

@@ -12,9 +12,9 @@ use Rattle.std.proofs.lemmas.List.Folds.{list_any-append}
 use Rattle.std.proofs.lemmas.Map.Keys.{IsDistinct-push}
 use Rattle.std.proofs.lemmas.Map.Made.{length-from_keys}
 use Rattle.std.proofs.lemmas.Map.Views.{Contains-from_any, list_any-from_Contains}
-use Rattle.area_ops.specs.Frequency.{IsMostFrequent, occurrences}
+use Rattle.region_meaning.specs.AreaFrequency.{IsMostFrequent, occurrences}
 use Rattle.area_ops.specs.Laws.{MajorityIsMostFrequent}
-use Rattle.area_ops.specs.inside.Majority.{is_ahead, most_frequent}
+use Rattle.region_meaning.specs.inside.AreaMajority.{is_ahead, most_frequent}
 
 -- two numbers that are equal by the test, in either order
 pub equal_numbers : (x y : ℤ) → int_eq x y ≡ true → x ≡ y

@@ -14,11 +14,11 @@ use Rattle.cell_values.specs.declared.cell.Cell.TheVariants.{Mv, Val}
 use Rattle.tile_map.specs.declared.arg.Arg.TheVariants.{One}
 use Rattle.tile_map.specs.Args.{arg_cell}
 use Rattle.tile_map.specs.Parts.{tabulate}
-use Rattle.area_ops.specs.declared.op.AreaOp.{AreaOp}
-use Rattle.area_ops.specs.Areas.{AreaPlace, area_places, numbers_of, taken, taken_by_class}
-use Rattle.area_ops.specs.Frequency.{occurrences}
+use Rattle.region_meaning.specs.declared.area.AreaOp.{AreaOp}
+use Rattle.region_meaning.specs.Areas.{AreaPlace, area_places, numbers_of, taken, taken_by_class}
+use Rattle.region_meaning.specs.AreaFrequency.{occurrences}
 use Rattle.area_ops.specs.Laws.{MapIsOneArea, OrderDoesNotMatter}
-use Rattle.area_ops.specs.Results.{area_outcome, area_result, greatest_of, least_of, total_of}
+use Rattle.region_meaning.specs.AreaResults.{area_outcome, area_result, greatest_of, least_of, total_of}
 use Rattle.area_ops.specs.inside.Counts.{counts_numbers}
 use Rattle.area_ops.specs.inside.Tallies.{number_tally, tally_result}
 use Rattle.area_ops.proofs.LeaderLemmas.{same_result}

@@ -13,12 +13,12 @@ use Rattle.tile_map.specs.declared.arg.Arg.{Arg}
 use Rattle.tile_map.specs.Args.{arg_cell}
 use Rattle.tile_map.specs.Parts.{Outcome, first_over, or_missing, or_over_at, part_of, tabulate}
 use Rattle.tile_map.specs.declared.part.Part.{Part}
-use Rattle.area_ops.specs.declared.op.AreaOp.{AreaOp}
+use Rattle.region_meaning.specs.declared.area.AreaOp.{AreaOp}
 use Rattle.area_ops.specs.declared.tally.Tally.{Tally}
-use Rattle.area_ops.specs.Areas.{AreaPlace, area_places, numbers_of, taken, taken_by_class}
+use Rattle.region_meaning.specs.Areas.{AreaPlace, area_places, numbers_of, taken, taken_by_class}
 use Rattle.area_ops.specs.Partials.{PartialValue, StandsFor}
-use Rattle.area_ops.specs.Frequency.{occurrences}
-use Rattle.area_ops.specs.Results.{area_outcome, area_result}
+use Rattle.region_meaning.specs.AreaFrequency.{occurrences}
+use Rattle.region_meaning.specs.AreaResults.{area_outcome, area_result}
 use Rattle.area_ops.specs.inside.Counts.{Member, count_in, counts_numbers}
 use Rattle.area_ops.specs.inside.Leaders.{place_result, class_result}
 use Rattle.area_ops.specs.inside.Tallies.{IsTally, AreTallies, no_tally, place_tally, seen_from, tally_in, tally_join, number_tally, tally_of_one, tally_of_option, tally_result}

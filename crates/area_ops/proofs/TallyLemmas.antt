@@ -7,10 +7,10 @@ use Rattle.std.proofs.lemmas.Bool.{cases_eq}
 use Rattle.std.proofs.lemmas.Int.{clamps, ints}
 use Rattle.std.proofs.lemmas.List.{append-nil, length-append}
 use Rattle.cell_values.specs.declared.cell.Cell.TheVariants.{Mv}
-use Rattle.area_ops.specs.declared.op.AreaOp.{AreaOp}
-use Rattle.area_ops.specs.declared.op.AreaOp.TheVariants.{Total, Average, Minimum, Maximum, Diversity, Majority, Area}
+use Rattle.region_meaning.specs.declared.area.AreaOp.{AreaOp}
+use Rattle.region_meaning.specs.declared.area.AreaOp.TheVariants.{Total, Average, Minimum, Maximum, Diversity, Majority, Area}
 use Rattle.area_ops.specs.declared.tally.Tally.{Tally}
-use Rattle.area_ops.specs.Results.{area_result, greatest_of, least_of, total_of}
+use Rattle.region_meaning.specs.AreaResults.{area_result, greatest_of, least_of, total_of}
 use Rattle.area_ops.specs.inside.Counts.{counts_numbers}
 use Rattle.area_ops.specs.inside.Tallies.{IsTally, joined_by, no_tally, tally_join, number_tally, tally_result, tally_sum}
 

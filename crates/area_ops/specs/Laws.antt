@@ -8,12 +8,12 @@ use Rattle.tile_map.specs.declared.arg.Arg.{Arg}
 use Rattle.tile_map.specs.declared.arg.Arg.TheVariants.{One}
 use Rattle.tile_map.specs.Args.{arg_cell}
 use Rattle.tile_map.specs.Parts.{tabulate}
-use Rattle.area_ops.specs.declared.op.AreaOp.{AreaOp}
-use Rattle.area_ops.specs.Areas.{AreaPlace, area_places, numbers_of, taken}
-use Rattle.area_ops.specs.Frequency.{IsMostFrequent}
+use Rattle.region_meaning.specs.declared.area.AreaOp.{AreaOp}
+use Rattle.region_meaning.specs.Areas.{AreaPlace, area_places, numbers_of, taken}
+use Rattle.region_meaning.specs.AreaFrequency.{IsMostFrequent}
 use Rattle.area_ops.specs.Partials.{PartialValue, StandsFor}
-use Rattle.area_ops.specs.Results.{area_outcome}
-use Rattle.area_ops.specs.inside.Majority.{most_frequent}
+use Rattle.region_meaning.specs.AreaResults.{area_outcome}
+use Rattle.region_meaning.specs.inside.AreaMajority.{most_frequent}
 
 -- the same places in another order give each class the same outcome, and a partial that stands for them stands for them so
 abbrev pub OrderDoesNotMatter : Type 0

@@ -1,9 +1,9 @@
 -- Partials: what is kept of some places.
 use Rattle.std.specs.Prelude.{◌≡◌, ℕ, ℤ, true, false, List, length}
-use Rattle.area_ops.specs.declared.op.AreaOp.{AreaOp}
+use Rattle.region_meaning.specs.declared.area.AreaOp.{AreaOp}
 use Rattle.area_ops.specs.declared.tally.Tally.{Tally}
-use Rattle.area_ops.specs.Areas.{AreaPlace, numbers_of}
-use Rattle.area_ops.specs.Frequency.{occurrences}
+use Rattle.region_meaning.specs.Areas.{AreaPlace, numbers_of}
+use Rattle.region_meaning.specs.AreaFrequency.{occurrences}
 use Rattle.area_ops.specs.inside.Counts.{Member, count_in, counts_numbers}
 use Rattle.area_ops.specs.inside.Tallies.{tally_in, number_tally}
 

@@ -1,4 +1,3 @@
 pub mod Counts
 pub mod Leaders
-pub mod Majority
 pub mod Tallies

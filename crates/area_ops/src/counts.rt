@@ -3,11 +3,11 @@
 ghost use Rattle.std.specs.Prelude.{◌≡◌, ◌+◌, ◌≤◌, ◌<◌, ℤ, IfOk, OnOk};
 ghost use Rattle.text_base.specs.Limits.{most_cells};
 ghost use Rattle.tile_map.specs.Args.{SpansPlaces};
-ghost use Rattle.area_ops.specs.Areas.{area_places, numbers_of};
-ghost use Rattle.area_ops.specs.Frequency.{occurrences};
+ghost use Rattle.region_meaning.specs.Areas.{area_places, numbers_of};
+ghost use Rattle.region_meaning.specs.AreaFrequency.{occurrences};
 ghost use Rattle.area_ops.specs.inside.Counts.{AreCounts, Member, count_at, count_seen, times_given};
 
-use crate::op::AreaOp;
+use region_meaning::AreaOp;
 use crate::partial::taken;
 use cell_values::Cell;
 use std::alloc::{AllocError, Global};

@@ -7,7 +7,6 @@
 mod counts;
 mod laws;
 mod leader;
-mod op;
 mod partial;
 mod results;
 mod tally;
@@ -15,5 +14,4 @@ mod tally;
 pub use laws::{
     a_majority_is_the_most_frequent, a_map_is_one_area, the_order_of_places_does_not_matter,
 };
-pub use op::AreaOp;
 pub use partial::Partial;

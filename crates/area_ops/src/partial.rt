@@ -4,14 +4,15 @@ ghost use Rattle.std.specs.Prelude.{◌≡◌, ◌+◌, ◌≤◌, ◌++◌, ◌
 ghost use Rattle.text_base.specs.Limits.{most_cells};
 ghost use Rattle.tile_map.specs.Args.{SpansPlaces, arg_cell};
 ghost use Rattle.tile_map.specs.Parts.{part_of};
-ghost use Rattle.area_ops.specs.Areas.{AreaPlace, area_places, numbers_of, taken};
+ghost use Rattle.region_meaning.specs.Areas.{AreaPlace, area_places, numbers_of, taken};
 ghost use Rattle.area_ops.specs.Partials.{StandsFor};
-ghost use Rattle.area_ops.specs.Results.{area_outcome, area_result};
+ghost use Rattle.region_meaning.specs.AreaResults.{area_outcome, area_result};
+ghost use Rattle.area_ops.specs.inside.Counts.{counts_numbers};
 ghost use Rattle.area_ops.specs.inside.Leaders.{class_result};
 ghost use Rattle.area_ops.specs.inside.Tallies.{AreTallies, IsTally, place_tally, seen_from, tally_at, tally_join, number_tally};
 
 use crate::counts::{Counts, counts, counts_of_both};
-use crate::op::AreaOp;
+use region_meaning::AreaOp;
 use crate::results::{Results, counted, outcomes, tallied};
 use crate::tally::Tally;
 use cell_values::Cell;
@@ -42,6 +43,13 @@ impl Model for Partial {
     ghost view = { λ p. record { op = p.op; cells = p.cells; tallies = p.areas.entries; counts = p.counts.entries } };
 
     ghost invariant = { λ p. (p.cells ≤ most_cells) × AreTallies p.cells (tally_at p.areas) × AreCounts p.cells p.counts.entries };
+}
+
+// Whether the operation asks how often each number stands in a class.
+fn counts_numbers(op: AreaOp) -> bool
+    ensures { result ≡ counts_numbers op }
+{
+    matches!(op, AreaOp::Diversity | AreaOp::Majority)
 }
 
 // What an operation takes from a value.
@@ -157,7 +165,7 @@ impl Partial {
         ensures cells { IfOk result (λ partial. partial.cells ≡ len) }
         ensures stands { IfOk result (λ partial. StandsFor partial (area_places values.entry classes.entry len)) }
     {
-        if op.counts_numbers() {
+        if counts_numbers(op) {
             let counts = counts(alloc, op, values, classes, len)?;
             return Ok(Partial {
                 op,
@@ -199,7 +207,7 @@ impl Partial {
     fn results(&self, alloc: Global) -> Result<Results, AllocError>
         ensures { (places : List AreaPlace) → StandsFor self.now places → IfOk result (λ results. (class : ℤ) → class_result results.entries class ≡ area_result self.now.op (numbers_of self.now.op places class)) }
     {
-        if self.op.counts_numbers() {
+        if counts_numbers(self.op) {
             return counted(alloc, self.op, &self.counts);
         }
         tallied(alloc, self.op, &self.areas)

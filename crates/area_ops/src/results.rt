@@ -8,15 +8,15 @@ ghost use Rattle.std.specs.Ordering.{int_cmp};
 ghost use Rattle.text_base.specs.Limits.{most_cells};
 ghost use Rattle.tile_map.specs.Args.{SpansPlaces, arg_cell};
 ghost use Rattle.tile_map.specs.Parts.{part_of};
-ghost use Rattle.area_ops.specs.Frequency.{occurrences};
-ghost use Rattle.area_ops.specs.Results.{area_result};
+ghost use Rattle.region_meaning.specs.AreaFrequency.{occurrences};
+ghost use Rattle.region_meaning.specs.AreaResults.{area_result};
 ghost use Rattle.area_ops.specs.inside.Counts.{AreCounts, count_at, counts_numbers, member_cmp};
 ghost use Rattle.area_ops.specs.inside.Leaders.{led_by_entries, led_result, place_result, class_result};
 ghost use Rattle.area_ops.specs.inside.Tallies.{AreTallies, tally_at, tally_result};
 
 use crate::counts::Counts;
 use crate::leader::Leader;
-use crate::op::AreaOp;
+use region_meaning::AreaOp;
 use crate::tally::Tally;
 use cell_values::{Cell, Cells, Over};
 use std::alloc::{AllocError, Global};

@@ -12,9 +12,10 @@ use Rattle.tile_map.specs.Parts.{Outcome, first_over, or_missing, or_over_at, pa
 use Rattle.tile_map.specs.Rects.{IsInMap, cell_count, grown, place_in}
 use Rattle.tile_map.proofs.Callers.{get_or-cut_of, length-cut_of}
 use Rattle.tile_map.proofs.RectLemmas.{place_below, some_cols}
-use Rattle.window_ops.specs.declared.op.WindowOp.{WindowOp}
-use Rattle.window_ops.specs.Results.{window_result}
-use Rattle.window_ops.specs.Windows.{AreAround, IsInside, present_values, window_outcome}
+use Rattle.region_meaning.specs.declared.window.WindowOp.{WindowOp}
+use Rattle.region_meaning.specs.WindowResults.{window_result}
+use Rattle.region_meaning.specs.Windows.{present_values, window_outcome}
+use Rattle.window_ops.specs.Surroundings.{AreAround, IsInside}
 use Rattle.window_ops.proofs.WindowLemmas.{place-window, place_at, window_at}
 
 -- outcomes that are the same place by place give the same part

@@ -7,11 +7,11 @@ use Rattle.cell_values.specs.declared.cell.Cell.TheVariants.{Mv, Val}
 use Rattle.cell_values.specs.declared.kind.Kind.TheVariants.{Scalar}
 use Rattle.cell_values.specs.Kinds.{cell_of_number}
 use Rattle.tile_map.specs.Parts.{Outcome}
-use Rattle.window_ops.specs.declared.op.WindowOp.TheVariants.{Diversity, Majority}
-use Rattle.window_ops.specs.Frequency.{frequency_among}
-use Rattle.window_ops.specs.Results.{windowdiversity_of, window_result}
-use Rattle.window_ops.specs.inside.Majority.{first_of_two, goes_before}
-use Rattle.window_ops.specs.Windows.{present_values}
+use Rattle.region_meaning.specs.declared.window.WindowOp.TheVariants.{Diversity, Majority}
+use Rattle.region_meaning.specs.WindowFrequency.{frequency_among}
+use Rattle.region_meaning.specs.WindowResults.{windowdiversity_of, window_result}
+use Rattle.region_meaning.specs.inside.WindowMajority.{first_of_two, goes_before}
+use Rattle.region_meaning.specs.Windows.{present_values}
 use Rattle.window_ops.specs.declared.classes.Ranked.{Ranked}
 use Rattle.window_ops.specs.inside.Classes.{first_ranked, majority_from, ranked}
 

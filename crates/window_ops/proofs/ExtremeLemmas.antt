@@ -11,8 +11,8 @@ use Rattle.tile_map.proofs.Callers.{get_or-cut_of, length-cut_of}
 use Rattle.tile_map.proofs.CutLemmas.{between-map_range}
 use Rattle.window_ops.specs.declared.extremes.Extreme.{Extreme}
 use Rattle.window_ops.specs.declared.extremes.Extreme.TheVariants.{Least, Greatest}
-use Rattle.window_ops.specs.Results.{window_result}
-use Rattle.window_ops.specs.Windows.{present_values, window_outcome}
+use Rattle.region_meaning.specs.WindowResults.{window_result}
+use Rattle.region_meaning.specs.Windows.{present_values, window_outcome}
 use Rattle.window_ops.specs.inside.Extremes.{extreme_cell, extreme_value, extreme_op}
 use Rattle.window_ops.specs.inside.Outcomes.{over}
 use Rattle.window_ops.proofs.Grid.{IsUnordered, over-list, over-same}

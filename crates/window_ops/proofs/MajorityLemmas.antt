@@ -5,8 +5,8 @@ use Rattle.std.specs.List.{Contains}
 use Rattle.std.proofs.lemmas.Bool.Decides.{nat_tests}
 use Rattle.std.proofs.lemmas.Int.{ints}
 use Rattle.window_ops.specs.Laws.{WindowMajorityIsMostFrequent}
-use Rattle.window_ops.specs.Frequency.{IsMajorityAmong, frequency_among}
-use Rattle.window_ops.specs.inside.Majority.{first_of_two, goes_before, windowmajority_of}
+use Rattle.region_meaning.specs.WindowFrequency.{IsMajorityAmong, frequency_among}
+use Rattle.region_meaning.specs.inside.WindowMajority.{first_of_two, goes_before, windowmajority_of}
 
 -- a value of some count stands not before another one of some count
 abbrev NotBefore : ℕ → ℤ → ℕ → ℤ → Type 0

@@ -16,11 +16,11 @@ use Rattle.tile_map.specs.Cuts.{cell_at, cut_of}
 use Rattle.tile_map.specs.Parts.{Outcome}
 use Rattle.tile_map.specs.Rects.{place_in}
 use Rattle.tile_map.proofs.Callers.{get_or-cut_of, length-cut_of}
-use Rattle.window_ops.specs.declared.op.WindowOp.{WindowOp}
-use Rattle.window_ops.specs.declared.op.WindowOp.TheVariants.{Total, Average, Minimum, Maximum, Diversity, Majority}
+use Rattle.region_meaning.specs.declared.window.WindowOp.{WindowOp}
+use Rattle.region_meaning.specs.declared.window.WindowOp.TheVariants.{Total, Average, Minimum, Maximum, Diversity, Majority}
 use Rattle.window_ops.specs.Laws.{OneCellIsItself, outcome_of_one}
-use Rattle.window_ops.specs.Results.{window_result}
-use Rattle.window_ops.specs.Windows.{present_values, single, window_outcome}
+use Rattle.region_meaning.specs.WindowResults.{window_result}
+use Rattle.region_meaning.specs.Windows.{present_values, single, window_outcome}
 use Rattle.window_ops.proofs.WindowLemmas.{window_of-reach_0}
 
 -- a number over 1 is itself

@@ -16,8 +16,8 @@ use Rattle.tile_map.proofs.Callers.{get_or-cut_of, length-cut_of}
 use Rattle.window_ops.specs.declared.sum.Sum.{Sum}
 use Rattle.window_ops.specs.declared.sum.Summed.{Summed}
 use Rattle.window_ops.specs.declared.sum.Summed.TheVariants.{All, Mean}
-use Rattle.window_ops.specs.Results.{window_result, windowtotal_of}
-use Rattle.window_ops.specs.Windows.{present_values, window_outcome}
+use Rattle.region_meaning.specs.WindowResults.{window_result, windowtotal_of}
+use Rattle.region_meaning.specs.Windows.{present_values, window_outcome}
 use Rattle.window_ops.specs.inside.Outcomes.{longest_window, over}
 use Rattle.window_ops.specs.inside.Sums.{IsSmall, column_sum, most_summed, no_sum, outcome_of_sum, outcome_of_values_sum, sum_at, sum_join, sum_of_cell, sum_op_of}
 use Rattle.window_ops.proofs.Grid.{IsUnordered, over-parts, over-same}

@@ -10,7 +10,7 @@ use Rattle.tile_map.specs.Rects.{IsInMap, cell_count, grown, place_in}
 use Rattle.tile_map.proofs.RectLemmas.{some_cols}
 use Rattle.std.proofs.lemmas.Bool.{cases_lt}
 use Rattle.window_ops.specs.Laws.{WindowsHoldWhatIsNear}
-use Rattle.window_ops.specs.Windows.{single, window_of}
+use Rattle.region_meaning.specs.Windows.{single, window_of}
 use Rattle.window_ops.specs.inside.Outcomes.{over}
 use Rattle.window_ops.proofs.Grid.{IsUnordered, over-list, over-rows, over-same, over-turned}
 

@@ -8,11 +8,11 @@ use Rattle.cell_values.specs.Units.{million}
 use Rattle.tile_map.specs.Cuts.{cell_at}
 use Rattle.tile_map.specs.Parts.{Outcome}
 use Rattle.tile_map.specs.Rects.{HoldsPlace}
-use Rattle.window_ops.specs.declared.op.WindowOp.{WindowOp}
-use Rattle.window_ops.specs.declared.op.WindowOp.TheVariants.{Diversity}
-use Rattle.window_ops.specs.Frequency.{IsMajorityAmong}
-use Rattle.window_ops.specs.inside.Majority.{windowmajority_of}
-use Rattle.window_ops.specs.Windows.{window_of, window_outcome}
+use Rattle.region_meaning.specs.declared.window.WindowOp.{WindowOp}
+use Rattle.region_meaning.specs.declared.window.WindowOp.TheVariants.{Diversity}
+use Rattle.region_meaning.specs.WindowFrequency.{IsMajorityAmong}
+use Rattle.region_meaning.specs.inside.WindowMajority.{windowmajority_of}
+use Rattle.region_meaning.specs.Windows.{window_of, window_outcome}
 
 -- two numbers are at most k apart
 abbrev pub AreWithin : ℕ → ℕ → ℕ → Type 0

@@ -1,5 +1,3 @@
-pub mod Frequency
 pub mod Laws
-pub mod Results
-pub mod Windows
+pub mod Surroundings
 pub mod inside

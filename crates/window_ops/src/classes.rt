@@ -8,9 +8,9 @@ ghost use Rattle.text_base.specs.Limits.{most_cells};
 ghost use Rattle.tile_map.specs.Cuts.{cut_of};
 ghost use Rattle.tile_map.specs.Parts.{part_of};
 ghost use Rattle.tile_map.specs.Rects.{IsInMap, cell_count, place_in};
-ghost use Rattle.window_ops.specs.Frequency.{frequency_among};
-ghost use Rattle.window_ops.specs.Results.{window_result};
-ghost use Rattle.window_ops.specs.Windows.{longest_reach, present_values, window_outcome};
+ghost use Rattle.region_meaning.specs.WindowFrequency.{frequency_among};
+ghost use Rattle.region_meaning.specs.WindowResults.{window_result};
+ghost use Rattle.region_meaning.specs.Windows.{longest_reach, present_values, window_outcome};
 ghost use Rattle.window_ops.specs.inside.Classes.{class_op_of, majority_from};
 
 use crate::outcomes::Outcomes;

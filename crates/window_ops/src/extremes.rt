@@ -6,7 +6,7 @@ ghost use Rattle.cell_values.specs.declared.cell.Cell.TheVariants.{Mv};
 ghost use Rattle.tile_map.specs.Cuts.{cell_at};
 ghost use Rattle.tile_map.specs.Parts.{part_of};
 ghost use Rattle.tile_map.specs.Rects.{IsInMap, cell_count, place_in};
-ghost use Rattle.window_ops.specs.Windows.{longest_reach, window_outcome};
+ghost use Rattle.region_meaning.specs.Windows.{longest_reach, window_outcome};
 ghost use Rattle.window_ops.specs.inside.Extremes.{extreme_op};
 
 use crate::outcomes::Outcomes;

@@ -3,11 +3,12 @@ ghost use Rattle.text_base.specs.Limits.{most_cells};
 ghost use Rattle.cell_values.specs.declared.cell.Cell.{Cell as TheCell};
 ghost use Rattle.tile_map.specs.Parts.{part_of};
 ghost use Rattle.tile_map.specs.Rects.{IsInMap, cell_count, place_in};
-ghost use Rattle.window_ops.specs.Windows.{AreAround, IsInside, longest_reach, window_outcome};
+ghost use Rattle.region_meaning.specs.Windows.{longest_reach, window_outcome};
+ghost use Rattle.window_ops.specs.Surroundings.{AreAround, IsInside};
 
 use crate::classes::{Classed, class_part};
 use crate::extremes::{Extreme, extreme_part};
-use crate::op::WindowOp;
+use region_meaning::WindowOp;
 use crate::sum::Summed;
 use crate::sums::sum_part;
 use cell_values::Cell;

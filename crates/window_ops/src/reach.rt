@@ -3,7 +3,7 @@
 ghost use Rattle.std.specs.Prelude.{◌≡◌, ◌<◌, ◌≤◌, ◌*◌, ◌+◌, ◌-◌, ◌^◌, ℕ, length, min};
 ghost use Rattle.text_base.specs.Limits.{most_cells};
 ghost use Rattle.tile_map.specs.Cuts.{cell_at};
-ghost use Rattle.window_ops.specs.Windows.{longest_reach};
+ghost use Rattle.region_meaning.specs.Windows.{longest_reach};
 
 use cell_values::Cell;
 

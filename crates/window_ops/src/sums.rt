@@ -4,7 +4,7 @@ ghost use Rattle.std.specs.Prelude.{◌≡◌, ◌<◌, ◌≤◌, ◌*◌, ◌+
 ghost use Rattle.text_base.specs.Limits.{most_cells};
 ghost use Rattle.tile_map.specs.Parts.{Outcome, part_of};
 ghost use Rattle.tile_map.specs.Rects.{IsInMap, cell_count, place_in};
-ghost use Rattle.window_ops.specs.Windows.{longest_reach, window_outcome};
+ghost use Rattle.region_meaning.specs.Windows.{longest_reach, window_outcome};
 ghost use Rattle.window_ops.specs.inside.Outcomes.{AreOutcomes, longest_window, over};
 ghost use Rattle.window_ops.specs.inside.Sums.{IsSmall, no_sum, outcome_of_sum, sum_at, sum_join, sum_op_of};
 

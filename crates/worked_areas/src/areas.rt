@@ -1,8 +1,8 @@
 //! Operations over areas, a row a map.
 
 use crate::parts::{Classes, in_one, in_two};
-use area_ops::AreaOp;
-use area_ops::AreaOp::{Area, Average, Diversity, Majority, Maximum, Minimum, Total};
+use region_meaning::AreaOp;
+use region_meaning::AreaOp::{Area, Average, Diversity, Majority, Maximum, Minimum, Total};
 use cell_values::Cell;
 use cell_values::Cell::{Mv, Val};
 use std::alloc::Global;

@@ -3,7 +3,8 @@
 ghost use Rattle.std.specs.Prelude.{◌≡◌, ◌+◌, ◌≤◌, length, IfOk};
 ghost use Rattle.text_base.specs.Limits.{most_cells};
 
-use area_ops::{AreaOp, Partial};
+use area_ops::Partial;
+use region_meaning::AreaOp;
 use cell_values::Cell;
 use cell_values::Cell::Val;
 use std::alloc::Global;

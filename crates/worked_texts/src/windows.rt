@@ -6,8 +6,9 @@ use cell_values::Cell::{Mv, Val};
 use std::alloc::Global;
 use std::test::Fail;
 use tile_map::{Part, Rect, Tiling};
-use window_ops::WindowOp::{Average, Diversity, Majority, Maximum, Minimum, Total};
-use window_ops::{WindowOp, window_part};
+use region_meaning::WindowOp::{Average, Diversity, Majority, Maximum, Minimum, Total};
+use region_meaning::WindowOp;
+use window_ops::window_part;
 
 /// One.
 const ONE: i64 = 1_000_000;

@@ -6,9 +6,9 @@ use Rattle.std.specs.Option.{unwrap_or}
 use Rattle.std.specs.BTreeMap.{BTreeMap, is_at}
 use Rattle.std.specs.Map.{lookup}
 use Rattle.cell_values.specs.declared.cell.Cell.{Cell}
-use Rattle.area_ops.specs.declared.op.AreaOp.{AreaOp}
-use Rattle.area_ops.specs.declared.op.AreaOp.TheVariants.{Diversity, Majority}
-use Rattle.area_ops.specs.Areas.{taken_by_class}
+use Rattle.region_meaning.specs.declared.area.AreaOp.{AreaOp}
+use Rattle.region_meaning.specs.declared.area.AreaOp.TheVariants.{Diversity, Majority}
+use Rattle.region_meaning.specs.Areas.{taken_by_class}
 
 -- the operation asks how often each number stands in a class
 abbrev pub counts_numbers : AreaOp → Bool

@@ -10,8 +10,8 @@ use Rattle.cell_values.specs.declared.cell.Cell.TheVariants.{Mv, Val}
 use Rattle.cell_values.specs.Kinds.{cell_of_number}
 use Rattle.cell_values.specs.Units.{million}
 use Rattle.tile_map.specs.Parts.{Outcome}
-use Rattle.area_ops.specs.declared.op.AreaOp.{AreaOp}
-use Rattle.area_ops.specs.declared.op.AreaOp.TheVariants.{Diversity}
+use Rattle.region_meaning.specs.declared.area.AreaOp.{AreaOp}
+use Rattle.region_meaning.specs.declared.area.AreaOp.TheVariants.{Diversity}
 use Rattle.area_ops.specs.declared.leader.Leader.{Leader}
 use Rattle.area_ops.specs.inside.Counts.{Member}
 

@@ -14,11 +14,11 @@ use Rattle.cell_values.specs.Kinds.{cell_of_number}
 use Rattle.cell_values.specs.Rounding.{nearest}
 use Rattle.cell_values.specs.Units.{million}
 use Rattle.tile_map.specs.Parts.{Outcome}
-use Rattle.area_ops.specs.declared.op.AreaOp.{AreaOp}
-use Rattle.area_ops.specs.declared.op.AreaOp.TheVariants.{Total, Average, Minimum, Maximum, Diversity, Majority, Area}
+use Rattle.region_meaning.specs.declared.area.AreaOp.{AreaOp}
+use Rattle.region_meaning.specs.declared.area.AreaOp.TheVariants.{Total, Average, Minimum, Maximum, Diversity, Majority, Area}
 use Rattle.area_ops.specs.declared.tally.Tally.{Tally}
-use Rattle.area_ops.specs.Areas.{taken_by_class}
-use Rattle.area_ops.specs.Results.{greatest_of, least_of, total_of}
+use Rattle.region_meaning.specs.Areas.{taken_by_class}
+use Rattle.region_meaning.specs.AreaResults.{greatest_of, least_of, total_of}
 
 -- the tally of no number
 abbrev pub no_tally : Tally

@@ -1,10 +1,10 @@
 -- What is asked of the classes in a window.
 use Rattle.std.specs.Prelude.{ℤ, List, fold, ◌==◌, ◌&&◌, ◌||◌, nat_lt, int_lt, if◌then◌else◌}
-use Rattle.window_ops.specs.Frequency.{frequency_among}
-use Rattle.window_ops.specs.inside.Majority.{first_of_two}
+use Rattle.region_meaning.specs.WindowFrequency.{frequency_among}
+use Rattle.region_meaning.specs.inside.WindowMajority.{first_of_two}
 use Rattle.window_ops.specs.declared.classes.Ranked.{Ranked}
-use Rattle.window_ops.specs.declared.op.WindowOp.{WindowOp}
-use Rattle.window_ops.specs.declared.op.WindowOp.TheVariants.{Diversity, Majority}
+use Rattle.region_meaning.specs.declared.window.WindowOp.{WindowOp}
+use Rattle.region_meaning.specs.declared.window.WindowOp.TheVariants.{Diversity, Majority}
 use Rattle.window_ops.specs.declared.classes.Classed.{Classed}
 use Rattle.window_ops.specs.declared.classes.Classed.TheVariants.{Different, MostFrequent}
 

@@ -9,8 +9,8 @@ use Rattle.cell_values.specs.Kinds.{cell_of_number}
 use Rattle.cell_values.specs.Rounding.{nearest}
 use Rattle.tile_map.specs.Cuts.{cell_at}
 use Rattle.tile_map.specs.Parts.{Outcome}
-use Rattle.window_ops.specs.declared.op.WindowOp.{WindowOp}
-use Rattle.window_ops.specs.declared.op.WindowOp.TheVariants.{Total, Average}
+use Rattle.region_meaning.specs.declared.window.WindowOp.{WindowOp}
+use Rattle.region_meaning.specs.declared.window.WindowOp.TheVariants.{Total, Average}
 use Rattle.window_ops.specs.declared.sum.Sum.{Sum}
 use Rattle.window_ops.specs.declared.sum.Summed.{Summed}
 use Rattle.window_ops.specs.declared.sum.Summed.TheVariants.{All, Mean}

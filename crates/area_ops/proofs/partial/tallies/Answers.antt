@@ -1,6 +1,6 @@
 use Rattle.std.proofs.Common.{◌≡◌, ℤ, List, ap, sym, ◌∙◌}
 use Rattle.tile_map.specs.Args.{arg_cell}
-use Rattle.area_ops.specs.Areas.{AreaPlace, area_places, numbers_of}
+use Rattle.region_meaning.specs.Areas.{AreaPlace, area_places, numbers_of}
 use Rattle.area_ops.specs.declared.tally.Tally.{Tally}
 use Rattle.area_ops.specs.inside.Tallies.{place_tally, tally_at, tally_join, number_tally}
 use Rattle.area_ops.proofs.MapLemmas.{at_nothing, nothing_sound}

@@ -1,5 +1,5 @@
 use Rattle.std.proofs.Common.{◌≡◌, ℤ}
-use Rattle.area_ops.specs.Areas.{area_places, numbers_of}
+use Rattle.region_meaning.specs.Areas.{area_places, numbers_of}
 use Rattle.area_ops.specs.inside.Tallies.{AreTallies, tally_at, number_tally}
 use Rattle.area_ops.proofs.partial.tallies.Given as goal
 

@@ -1,7 +1,7 @@
 use Rattle.std.proofs.Common.{ℕ, arith}
 use Rattle.tile_map.specs.Parts.{Outcome}
 use Rattle.tile_map.specs.Rects.{place_in}
-use Rattle.window_ops.specs.Windows.{window_outcome}
+use Rattle.region_meaning.specs.Windows.{window_outcome}
 use Rattle.window_ops.specs.inside.Classes.{class_op_of}
 use Rattle.window_ops.proofs.OutcomeLemmas.{length-outcomes}
 use Rattle.window_ops.proofs.RoomLemmas.{few_cells}

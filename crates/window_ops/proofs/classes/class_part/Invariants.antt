@@ -1,6 +1,6 @@
 use Rattle.std.proofs.Common.{◌≡◌, ℕ, length}
 use Rattle.tile_map.specs.Rects.{place_in}
-use Rattle.window_ops.specs.Windows.{window_outcome}
+use Rattle.region_meaning.specs.Windows.{window_outcome}
 use Rattle.window_ops.specs.inside.Classes.{class_op_of}
 use Rattle.window_ops.specs.inside.Outcomes.{AreOutcomes}
 use Rattle.window_ops.proofs.classes.class_part.Given as goal

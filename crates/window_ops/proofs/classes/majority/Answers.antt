@@ -4,7 +4,7 @@ use Rattle.std.specs.HashMap.{get}
 use Rattle.std.specs.Ordering.{int_eq}
 use Rattle.std.proofs.lemmas.List.Sums.{fold_more}
 use Rattle.window_ops.specs.declared.classes.Ranked.{Ranked}
-use Rattle.window_ops.specs.inside.Majority.{first_of_two}
+use Rattle.region_meaning.specs.inside.WindowMajority.{first_of_two}
 use Rattle.window_ops.specs.inside.Classes.{first_ranked, ranked}
 use Rattle.window_ops.proofs.ClassLemmas.{first-ranked, ranked_is}
 use Rattle.window_ops.proofs.classes.majority.Goals as goal

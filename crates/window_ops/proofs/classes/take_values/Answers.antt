@@ -1,6 +1,6 @@
 use Rattle.std.proofs.Common.{◌++◌, List, [], ◌∷◌, get_or, take, ap, ◌∙◌, append_assoc, ℤ}
 use Rattle.cell_values.specs.declared.cell.Cell.TheVariants.{Mv}
-use Rattle.window_ops.specs.Windows.{present_values}
+use Rattle.region_meaning.specs.Windows.{present_values}
 use Rattle.window_ops.proofs.ClassLemmas.{values-more}
 use Rattle.window_ops.proofs.classes.take_values.Goals as goal
 

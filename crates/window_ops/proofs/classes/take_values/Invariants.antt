@@ -1,5 +1,5 @@
 use Rattle.std.proofs.Common.{◌≡◌, ◌++◌, take}
-use Rattle.window_ops.specs.Windows.{present_values}
+use Rattle.region_meaning.specs.Windows.{present_values}
 use Rattle.window_ops.proofs.classes.take_values.Given as goal
 
 abbrev pub invariant-loop-cell : goal.invariant-loop-cell

@@ -2,7 +2,7 @@ use Rattle.std.proofs.Common.{◌++◌, ◌+◌, ◌*◌, ◌≤◌, List, lengt
 use Rattle.std.proofs.lemmas.Nat.{mul-le}
 use Rattle.tile_map.specs.Cuts.{cell_at}
 use Rattle.tile_map.proofs.CutLemmas.{cut_more, front_rows, front_rows_all}
-use Rattle.window_ops.specs.Windows.{present_values}
+use Rattle.region_meaning.specs.Windows.{present_values}
 use Rattle.window_ops.proofs.ClassLemmas.{values-append}
 use Rattle.window_ops.proofs.classes.values_in.Goals as goal
 

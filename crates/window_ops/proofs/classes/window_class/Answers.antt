@@ -4,8 +4,8 @@ use Rattle.tile_map.specs.declared.rect.Rect.{Rect}
 use Rattle.tile_map.specs.Cuts.{cut_of}
 use Rattle.tile_map.specs.Rects.{cell_count}
 use Rattle.tile_map.proofs.Callers.{length-cut_of}
-use Rattle.window_ops.specs.Results.{window_result}
-use Rattle.window_ops.specs.Windows.{present_values, window_outcome}
+use Rattle.region_meaning.specs.WindowResults.{window_result}
+use Rattle.region_meaning.specs.Windows.{present_values, window_outcome}
 use Rattle.window_ops.specs.inside.Classes.{class_op_of}
 use Rattle.window_ops.proofs.ClassLemmas.{length-values}
 use Rattle.window_ops.proofs.WindowLemmas.{between, window-between}

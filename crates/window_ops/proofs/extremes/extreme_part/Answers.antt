@@ -4,7 +4,7 @@ use Rattle.cell_values.specs.declared.cell.Cell.TheVariants.{Mv}
 use Rattle.tile_map.specs.Cuts.{cell_at}
 use Rattle.tile_map.specs.Parts.{Outcome}
 use Rattle.tile_map.specs.Rects.{place_in}
-use Rattle.window_ops.specs.Windows.{window_outcome}
+use Rattle.region_meaning.specs.Windows.{window_outcome}
 use Rattle.window_ops.specs.inside.Extremes.{extreme_cell, extreme_op}
 use Rattle.window_ops.specs.inside.Outcomes.{AreOutcomes, over}
 use Rattle.window_ops.proofs.OutcomeLemmas.{length-outcomes}

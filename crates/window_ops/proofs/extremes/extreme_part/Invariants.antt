@@ -1,6 +1,6 @@
 use Rattle.std.proofs.Common.{◌≡◌, ℕ, ◌*◌, length}
 use Rattle.tile_map.specs.Rects.{place_in}
-use Rattle.window_ops.specs.Windows.{window_outcome}
+use Rattle.region_meaning.specs.Windows.{window_outcome}
 use Rattle.window_ops.specs.inside.Extremes.{extreme_op}
 use Rattle.window_ops.specs.inside.Outcomes.{AreOutcomes}
 use Rattle.window_ops.proofs.extremes.extreme_part.Given as goal

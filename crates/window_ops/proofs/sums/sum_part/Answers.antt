@@ -1,7 +1,7 @@
 use Rattle.std.proofs.Common.{◌≡◌, ℕ, ◌+◌, ◌-◌, ◌*◌, length, ◌≤◌, sym, ap, subst, ◌∙◌, arith}
 use Rattle.tile_map.specs.Parts.{Outcome}
 use Rattle.tile_map.specs.Rects.{cell_count, place_in}
-use Rattle.window_ops.specs.Windows.{window_outcome}
+use Rattle.region_meaning.specs.Windows.{window_outcome}
 use Rattle.window_ops.specs.inside.Outcomes.{AreOutcomes, longest_window}
 use Rattle.window_ops.specs.inside.Sums.{AreColumnSums, column_sum, sum_op_of}
 use Rattle.window_ops.proofs.ColumnLemmas.{small-column}

@@ -1,6 +1,6 @@
 use Rattle.std.proofs.Common.{◌≡◌, ℕ, ◌+◌, ◌-◌, ◌*◌, ◌≤◌, length, min}
 use Rattle.tile_map.specs.Rects.{place_in}
-use Rattle.window_ops.specs.Windows.{window_outcome}
+use Rattle.region_meaning.specs.Windows.{window_outcome}
 use Rattle.window_ops.specs.inside.Outcomes.{AreOutcomes}
 use Rattle.window_ops.specs.inside.Sums.{AreColumnSums, sum_op_of}
 use Rattle.window_ops.proofs.sums.sum_part.Given as goal

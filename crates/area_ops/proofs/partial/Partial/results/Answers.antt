@@ -3,9 +3,9 @@ use Rattle.std.specs.Prelude.{option_map}
 use Rattle.std.specs.BTreeMap.{get}
 use Rattle.std.specs.Ordering.{int_cmp}
 use Rattle.std.proofs.lemmas.Result.{IfOk-weaker}
-use Rattle.area_ops.specs.Areas.{numbers_of}
+use Rattle.region_meaning.specs.Areas.{numbers_of}
 use Rattle.area_ops.specs.Partials.{PartialValue, StandsFor}
-use Rattle.area_ops.specs.Results.{area_result}
+use Rattle.region_meaning.specs.AreaResults.{area_result}
 use Rattle.area_ops.specs.inside.Tallies.{tally_result}
 use Rattle.area_ops.proofs.PlaceLemmas.{result_found, results_of_tallies}
 use Rattle.area_ops.proofs.partial.Partial.results.Goals as goal

@@ -1,6 +1,6 @@
 -- The majority, by going through the values.
 use Rattle.std.specs.Prelude.{ℤ, List, ◌∷◌, fold, Bool, if◌then◌else◌, ◌==◌, ◌&&◌, ◌||◌, nat_lt, int_lt}
-use Rattle.window_ops.specs.Frequency.{frequency_among}
+use Rattle.region_meaning.specs.WindowFrequency.{frequency_among}
 
 -- a value stands more often among the values than another, or as often and is less
 abbrev pub goes_before : List ℤ → ℤ → ℤ → Bool

@@ -10,10 +10,10 @@ use Rattle.cell_values.specs.Kinds.{cell_of_number}
 use Rattle.cell_values.specs.Rounding.{nearest}
 use Rattle.cell_values.specs.Units.{million}
 use Rattle.tile_map.specs.Parts.{Outcome}
-use Rattle.area_ops.specs.declared.op.AreaOp.{AreaOp}
-use Rattle.area_ops.specs.declared.op.AreaOp.TheVariants.{Total, Average, Minimum, Maximum, Diversity, Majority, Area}
-use Rattle.area_ops.specs.Areas.{AreaPlace, numbers_of}
-use Rattle.area_ops.specs.inside.Majority.{most_frequent}
+use Rattle.region_meaning.specs.declared.area.AreaOp.{AreaOp}
+use Rattle.region_meaning.specs.declared.area.AreaOp.TheVariants.{Total, Average, Minimum, Maximum, Diversity, Majority, Area}
+use Rattle.region_meaning.specs.Areas.{AreaPlace, numbers_of}
+use Rattle.region_meaning.specs.inside.AreaMajority.{most_frequent}
 
 -- the sum of numbers, unbounded
 abbrev pub total_of : List ℤ → ℤ

@@ -1,7 +1,7 @@
 -- The most frequent number, as a value.
 use Rattle.std.specs.Prelude.{ℤ, List, Bool, ◌==◌, ◌&&◌, ◌||◌, nat_lt, int_lt}
 use Rattle.std.specs.List.{best_of}
-use Rattle.area_ops.specs.Frequency.{occurrences}
+use Rattle.region_meaning.specs.AreaFrequency.{occurrences}
 
 -- a number stands more often among numbers than another one, or as often and is less
 abbrev pub is_ahead : List ℤ → ℤ → ℤ → Bool

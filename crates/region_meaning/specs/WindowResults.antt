@@ -9,9 +9,9 @@ use Rattle.cell_values.specs.Kinds.{cell_of_number}
 use Rattle.cell_values.specs.Rounding.{nearest}
 use Rattle.cell_values.specs.Units.{million}
 use Rattle.tile_map.specs.Parts.{Outcome}
-use Rattle.window_ops.specs.declared.op.WindowOp.{WindowOp}
-use Rattle.window_ops.specs.declared.op.WindowOp.TheVariants.{Total, Average, Minimum, Maximum, Diversity, Majority}
-use Rattle.window_ops.specs.inside.Majority.{windowmajority_of}
+use Rattle.region_meaning.specs.declared.window.WindowOp.{WindowOp}
+use Rattle.region_meaning.specs.declared.window.WindowOp.TheVariants.{Total, Average, Minimum, Maximum, Diversity, Majority}
+use Rattle.region_meaning.specs.inside.WindowMajority.{windowmajority_of}
 
 -- the sum of values, unbounded
 abbrev pub windowtotal_of : List ℤ → ℤ

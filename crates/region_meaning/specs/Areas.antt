@@ -7,8 +7,8 @@ use Rattle.cell_values.specs.declared.cell.Cell.TheVariants.{Mv, Val}
 use Rattle.tile_map.specs.declared.arg.Arg.{Arg}
 use Rattle.tile_map.specs.Args.{arg_cell}
 use Rattle.tile_map.specs.Parts.{tabulate}
-use Rattle.area_ops.specs.declared.op.AreaOp.{AreaOp}
-use Rattle.area_ops.specs.declared.op.AreaOp.TheVariants.{Area}
+use Rattle.region_meaning.specs.declared.area.AreaOp.{AreaOp}
+use Rattle.region_meaning.specs.declared.area.AreaOp.TheVariants.{Area}
 
 -- a place as an area operation sees it: the cell of its value, and that of its class
 pub record AreaPlace : Type 0 where

@@ -6,8 +6,8 @@ use Rattle.tile_map.specs.declared.rect.Rect.{Rect}
 use Rattle.tile_map.specs.Cuts.{cut_of}
 use Rattle.tile_map.specs.Parts.{Outcome}
 use Rattle.tile_map.specs.Rects.{IsInMap, grown}
-use Rattle.window_ops.specs.declared.op.WindowOp.{WindowOp}
-use Rattle.window_ops.specs.Results.{window_result}
+use Rattle.region_meaning.specs.declared.window.WindowOp.{WindowOp}
+use Rattle.region_meaning.specs.WindowResults.{window_result}
 
 -- how far a window reaches at most, in rows and in columns
 abbrev pub longest_reach : ℕ
@@ -30,18 +30,3 @@ present_values (Val value ∷ cells) = value ∷ present_values cells
 -- what an operation gives of the window of a place
 unfoldable pub window_outcome : WindowOp → ℕ → ℕ → ℕ → List Cell → ℕ → Outcome
 window_outcome op rows cols k cells place = window_result op (present_values (cut_of cols cells (window_of rows cols k place)))
-
--- the first rectangle lies in the second one
-pub record IsInside (inner around : Rect) : Type 0 where
-  pub top : around.top ≤ inner.top
-  pub bottom : inner.top + inner.rows ≤ around.top + around.rows
-  pub left : around.left ≤ inner.left
-  pub right : inner.left + inner.cols ≤ around.left + around.cols
-
--- These are a map's cells around a rectangle: those of a rectangle of the map that contains the first one, grown by k on each
--- side and cut at the map's border.
-pub record AreAround (rows cols k : ℕ) (map cells : List Cell) (inner around : Rect) : Type 0 where
-  pub inner_in : IsInMap rows cols inner
-  pub around_in : IsInMap rows cols around
-  pub reach : IsInside (grown rows cols k inner) around
-  pub cells_are : cells ≡ cut_of cols map around

@@ -1,6 +1,3 @@
-ghost use Rattle.std.specs.Prelude.{◌≡◌};
-ghost use Rattle.area_ops.specs.inside.Counts.{counts_numbers};
-
 /// An operation over the cells of an area.
 #[derive(Clone, Copy, Debug, PartialEq, Eq)]
 pub enum AreaOp {
@@ -18,13 +15,4 @@ pub enum AreaOp {
     Majority,
     /// How many cells the area has: `areaarea`.
     Area,
-}
-
-impl AreaOp {
-    /// Whether the operation asks how often each number stands in a class.
-    pub(crate) fn counts_numbers(self) -> bool
-        ensures { result ≡ counts_numbers self }
-    {
-        matches!(self, AreaOp::Diversity | AreaOp::Majority)
-    }
 }

@@ -1,0 +1,2 @@
+pub mod AreaMajority
+pub mod WindowMajority
