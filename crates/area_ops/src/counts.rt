@@ -7,9 +7,9 @@ ghost use Rattle.region_meaning.specs.Areas.{area_places, numbers_of};
 ghost use Rattle.region_meaning.specs.AreaFrequency.{occurrences};
 ghost use Rattle.area_ops.specs.inside.Counts.{AreCounts, Member, count_at, count_seen, times_given};
 
-use region_meaning::AreaOp;
 use crate::partial::taken;
 use cell_values::Cell;
+use region_meaning::AreaOp;
 use std::alloc::{AllocError, Global};
 use std::collections::BTreeMap;
 use tile_map::Arg;

@@ -4,9 +4,9 @@ ghost use Rattle.std.specs.Prelude.{◌≡◌, ◌<◌, ◌^◌, true};
 ghost use Rattle.area_ops.specs.inside.Counts.{counts_numbers};
 ghost use Rattle.area_ops.specs.inside.Leaders.{different_of, leader_with, led_result, next_leader};
 
-use region_meaning::AreaOp;
 use crate::tally::MILLION;
 use cell_values::{Cell, Kind, Over, to_cell};
+use region_meaning::AreaOp;
 
 /// The most frequent number of a class, and how many different ones there are.
 #[derive(Clone, Copy, Debug)]

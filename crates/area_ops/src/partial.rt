@@ -12,10 +12,10 @@ ghost use Rattle.area_ops.specs.inside.Leaders.{class_result};
 ghost use Rattle.area_ops.specs.inside.Tallies.{AreTallies, IsTally, place_tally, seen_from, tally_at, tally_join, number_tally};
 
 use crate::counts::{Counts, counts, counts_of_both};
-use region_meaning::AreaOp;
 use crate::results::{Results, counted, outcomes, tallied};
 use crate::tally::Tally;
 use cell_values::Cell;
+use region_meaning::AreaOp;
 use std::alloc::{AllocError, Global};
 use std::collections::BTreeMap;
 use std::marker::Model;

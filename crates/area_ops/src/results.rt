@@ -16,9 +16,9 @@ ghost use Rattle.area_ops.specs.inside.Tallies.{AreTallies, tally_at, tally_resu
 
 use crate::counts::Counts;
 use crate::leader::Leader;
-use region_meaning::AreaOp;
 use crate::tally::Tally;
 use cell_values::{Cell, Cells, Over};
+use region_meaning::AreaOp;
 use std::alloc::{AllocError, Global};
 use std::collections::BTreeMap;
 use tile_map::{Arg, Part};

@@ -5,8 +5,8 @@ ghost use Rattle.text_base.specs.Limits.{most_cells};
 ghost use Rattle.area_ops.specs.inside.Counts.{counts_numbers};
 ghost use Rattle.area_ops.specs.inside.Tallies.{IsTally, no_tally, tally_join, tally_of_one, tally_result, tally_sum, tally_value};
 
-use region_meaning::AreaOp;
 use cell_values::{Cell, Kind, Over, round_div, to_cell};
+use region_meaning::AreaOp;
 
 /// How many millionths make one.
 pub const MILLION: i64 = 1_000_000;

@@ -1,11 +1,11 @@
 -- The windows of a map, and their values.
-use Rattle.std.specs.Prelude.{◌≡◌, ℕ, ◌+◌, ◌≤◌, ◌/◌, ◌%◌, ℤ, List, [], ◌∷◌}
+use Rattle.std.specs.Prelude.{ℕ, ◌/◌, ◌%◌, ℤ, List, [], ◌∷◌}
 use Rattle.cell_values.specs.declared.cell.Cell.{Cell}
 use Rattle.cell_values.specs.declared.cell.Cell.TheVariants.{Mv, Val}
 use Rattle.tile_map.specs.declared.rect.Rect.{Rect}
 use Rattle.tile_map.specs.Cuts.{cut_of}
 use Rattle.tile_map.specs.Parts.{Outcome}
-use Rattle.tile_map.specs.Rects.{IsInMap, grown}
+use Rattle.tile_map.specs.Rects.{grown}
 use Rattle.region_meaning.specs.declared.window.WindowOp.{WindowOp}
 use Rattle.region_meaning.specs.WindowResults.{window_result}
 

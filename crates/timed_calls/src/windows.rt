@@ -3,12 +3,13 @@
 use crate::best::Best;
 use crate::cells::drawn;
 use cell_values::Cell;
+use region_meaning::WindowOp;
 use std::alloc::{AllocError, Global};
 use std::rt::Clock;
 use std::test::Fail;
 use std::time::Instant;
 use tile_map::Rect;
-use window_ops::{WindowOp, window_part};
+use window_ops::window_part;
 
 /// A map of 2,048 by 2,048 cells.
 const WHOLE: Rect = Rect {

@@ -8,10 +8,10 @@ ghost use Rattle.window_ops.specs.Surroundings.{AreAround, IsInside};
 
 use crate::classes::{Classed, class_part};
 use crate::extremes::{Extreme, extreme_part};
-use region_meaning::WindowOp;
 use crate::sum::Summed;
 use crate::sums::sum_part;
 use cell_values::Cell;
+use region_meaning::WindowOp;
 use std::alloc::{AllocError, Global};
 use tile_map::{Part, Rect};
 
