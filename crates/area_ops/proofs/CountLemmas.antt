@@ -19,9 +19,9 @@ use Rattle.cell_values.specs.declared.cell.Cell.{Cell}
 use Rattle.cell_values.specs.declared.cell.Cell.TheVariants.{Mv, Val}
 use Rattle.region_meaning.specs.declared.area.AreaOp.{AreaOp}
 use Rattle.region_meaning.specs.Areas.{AreaPlace, numbers_of, taken, taken_by_class}
-use Rattle.region_meaning.specs.AreaFrequency.{occurrences}
+use Rattle.region_meaning.specs.Numbers.{occurrences}
 use Rattle.area_ops.specs.inside.Counts.{AreCounts, Member, count_in, count_of_option, count_seen, member_cmp, times_given}
-use Rattle.area_ops.proofs.MajorityLemmas.{occurrences-append, occurrences-cons}
+use Rattle.region_meaning.proofs.Callers.{occurrences-append, occurrences-cons}
 
 -- the order of numbers of classes
 pub member_total : IsTotalOrder member_cmp

@@ -23,13 +23,13 @@ use Rattle.tile_map.specs.Parts.{Outcome}
 use Rattle.region_meaning.specs.declared.area.AreaOp.{AreaOp}
 use Rattle.region_meaning.specs.declared.area.AreaOp.TheVariants.{Total, Average, Minimum, Maximum, Diversity, Majority, Area}
 use Rattle.area_ops.specs.declared.leader.Leader.{Leader}
-use Rattle.region_meaning.specs.AreaFrequency.{occurrences}
+use Rattle.region_meaning.specs.Numbers.{occurrences}
 use Rattle.region_meaning.specs.AreaResults.{area_result}
 use Rattle.area_ops.specs.inside.Counts.{Member, count_in, counts_numbers, member_cmp}
 use Rattle.area_ops.specs.inside.Leaders.{different_of, leader_with, led_by_entries, led_result, next_leader, takes_lead}
-use Rattle.region_meaning.specs.inside.AreaMajority.{most_frequent}
+use Rattle.region_meaning.specs.inside.MostFrequent.{most_frequent}
 use Rattle.area_ops.proofs.CountLemmas.{is_same}
-use Rattle.area_ops.proofs.MajorityLemmas.{IsFirst, IsNotBehind, distinct-same, distinct_from_list, equal_numbers, first-most_frequent, first-same, int_eq-flip, int_eq-same, is_most_frequent, occurs_at_front}
+use Rattle.region_meaning.proofs.Callers.{IsFirst, IsNotBehind, distinct-same, distinct_from_list, equal_numbers, first-most_frequent, first-same, int_eq-flip, int_eq-same, is_most_frequent, occurs_at_front}
 
 -- ---- the entries of a class
 

@@ -1,6 +1,5 @@
 mod CountLemmas
 mod LeaderLemmas
-mod MajorityLemmas
 mod MapLemmas
 mod OrderLemmas
 mod PlaceLemmas

@@ -14,7 +14,7 @@ use Rattle.std.proofs.lemmas.Bool.Decides.{Decides-int_eq}
 use Rattle.tile_map.specs.Parts.{Outcome}
 use Rattle.area_ops.specs.declared.tally.Tally.{Tally}
 use Rattle.area_ops.specs.inside.Tallies.{no_tally, IsTally, AreTallies, seen_from, tally_at, tally_in, tally_join, with_entries}
-use Rattle.area_ops.proofs.MajorityLemmas.{int_eq-flip}
+use Rattle.region_meaning.proofs.Callers.{int_eq-flip}
 use Rattle.area_ops.proofs.TallyLemmas.{count-tally_join, join_none, none_join_sound, sound-no_tally}
 
 -- two numbers that are equal by the test

@@ -16,13 +16,14 @@ use Rattle.tile_map.specs.Args.{arg_cell}
 use Rattle.tile_map.specs.Parts.{tabulate}
 use Rattle.region_meaning.specs.declared.area.AreaOp.{AreaOp}
 use Rattle.region_meaning.specs.Areas.{AreaPlace, area_places, numbers_of, taken, taken_by_class}
-use Rattle.region_meaning.specs.AreaFrequency.{occurrences}
+use Rattle.region_meaning.specs.Numbers.{occurrences}
 use Rattle.area_ops.specs.Laws.{MapIsOneArea, OrderDoesNotMatter}
-use Rattle.region_meaning.specs.AreaResults.{area_outcome, area_result, greatest_of, least_of, total_of}
+use Rattle.region_meaning.specs.AreaResults.{area_outcome, area_result}
+use Rattle.region_meaning.specs.Numbers.{greatest_of, least_of, total_of}
 use Rattle.area_ops.specs.inside.Counts.{counts_numbers}
 use Rattle.area_ops.specs.inside.Tallies.{number_tally, tally_result}
 use Rattle.area_ops.proofs.LeaderLemmas.{same_result}
-use Rattle.area_ops.proofs.MajorityLemmas.{int_eq-same, occurs_at_front, occurs_behind, occurs_more}
+use Rattle.region_meaning.proofs.Callers.{int_eq-same, occurs_at_front, occurs_behind, occurs_more}
 use Rattle.area_ops.proofs.TallyLemmas.{result_of_tally, same_tally}
 
 -- ---- sums over the numbers of a class are sums over places

@@ -17,7 +17,7 @@ use Rattle.region_meaning.specs.declared.area.AreaOp.{AreaOp}
 use Rattle.area_ops.specs.declared.tally.Tally.{Tally}
 use Rattle.region_meaning.specs.Areas.{AreaPlace, area_places, numbers_of, taken, taken_by_class}
 use Rattle.area_ops.specs.Partials.{PartialValue, StandsFor}
-use Rattle.region_meaning.specs.AreaFrequency.{occurrences}
+use Rattle.region_meaning.specs.Numbers.{occurrences}
 use Rattle.region_meaning.specs.AreaResults.{area_outcome, area_result}
 use Rattle.area_ops.specs.inside.Counts.{Member, count_in, counts_numbers}
 use Rattle.area_ops.specs.inside.Leaders.{place_result, class_result}

@@ -10,7 +10,8 @@ use Rattle.cell_values.specs.declared.cell.Cell.TheVariants.{Mv}
 use Rattle.region_meaning.specs.declared.area.AreaOp.{AreaOp}
 use Rattle.region_meaning.specs.declared.area.AreaOp.TheVariants.{Total, Average, Minimum, Maximum, Diversity, Majority, Area}
 use Rattle.area_ops.specs.declared.tally.Tally.{Tally}
-use Rattle.region_meaning.specs.AreaResults.{area_result, greatest_of, least_of, total_of}
+use Rattle.region_meaning.specs.AreaResults.{area_result}
+use Rattle.region_meaning.specs.Numbers.{greatest_of, least_of, total_of}
 use Rattle.area_ops.specs.inside.Counts.{counts_numbers}
 use Rattle.area_ops.specs.inside.Tallies.{IsTally, joined_by, no_tally, tally_join, number_tally, tally_result, tally_sum}
 

@@ -1,5 +1,5 @@
 -- What holds of all areas.
-use Rattle.std.specs.Prelude.{◌≡◌, ◌↔◌, ℕ, ℤ, List, ◌∷◌}
+use Rattle.std.specs.Prelude.{◌≡◌, ℕ, ℤ, List}
 use Rattle.std.specs.List.{filter_map}
 use Rattle.std.specs.List.Sorted.{IsPermutation}
 use Rattle.cell_values.specs.declared.cell.Cell.{Cell}
@@ -10,10 +10,8 @@ use Rattle.tile_map.specs.Args.{arg_cell}
 use Rattle.tile_map.specs.Parts.{tabulate}
 use Rattle.region_meaning.specs.declared.area.AreaOp.{AreaOp}
 use Rattle.region_meaning.specs.Areas.{AreaPlace, area_places, numbers_of, taken}
-use Rattle.region_meaning.specs.AreaFrequency.{IsMostFrequent}
 use Rattle.area_ops.specs.Partials.{PartialValue, StandsFor}
 use Rattle.region_meaning.specs.AreaResults.{area_outcome}
-use Rattle.region_meaning.specs.inside.AreaMajority.{most_frequent}
 
 -- the same places in another order give each class the same outcome, and a partial that stands for them stands for them so
 abbrev pub OrderDoesNotMatter : Type 0
@@ -21,11 +19,6 @@ OrderDoesNotMatter =
     (xs ys : List AreaPlace) → IsPermutation xs ys →
     ((op : AreaOp) (class : Cell) → area_outcome op xs class ≡ area_outcome op ys class)
     × ((partial : PartialValue) → StandsFor partial xs → StandsFor partial ys)
-
--- the majority of numbers is their most frequent one, the least of several, and no other number is
-abbrev pub MajorityIsMostFrequent : Type 0
-MajorityIsMostFrequent =
-    (first : ℤ) (rest : List ℤ) (number : ℤ) → IsMostFrequent (first ∷ rest) number ↔ (number ≡ most_frequent (first ∷ rest) first)
 
 -- where each place has the same class, its numbers are what the operation takes from all cells: a map is one area
 abbrev pub MapIsOneArea : Type 0

@@ -3,7 +3,7 @@ use Rattle.std.specs.Prelude.{◌≡◌, ℕ, ℤ, true, false, List, length}
 use Rattle.region_meaning.specs.declared.area.AreaOp.{AreaOp}
 use Rattle.area_ops.specs.declared.tally.Tally.{Tally}
 use Rattle.region_meaning.specs.Areas.{AreaPlace, numbers_of}
-use Rattle.region_meaning.specs.AreaFrequency.{occurrences}
+use Rattle.region_meaning.specs.Numbers.{occurrences}
 use Rattle.area_ops.specs.inside.Counts.{Member, count_in, counts_numbers}
 use Rattle.area_ops.specs.inside.Tallies.{tally_in, number_tally}
 

@@ -4,7 +4,7 @@ ghost use Rattle.std.specs.Prelude.{◌≡◌, ◌+◌, ◌≤◌, ◌<◌, ℤ,
 ghost use Rattle.text_base.specs.Limits.{most_cells};
 ghost use Rattle.tile_map.specs.Args.{SpansPlaces};
 ghost use Rattle.region_meaning.specs.Areas.{area_places, numbers_of};
-ghost use Rattle.region_meaning.specs.AreaFrequency.{occurrences};
+ghost use Rattle.region_meaning.specs.Numbers.{occurrences};
 ghost use Rattle.area_ops.specs.inside.Counts.{AreCounts, Member, count_at, count_seen, times_given};
 
 use crate::partial::taken;

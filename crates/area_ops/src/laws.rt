@@ -1,17 +1,11 @@
 //! What holds of all areas.
 
-ghost use Rattle.area_ops.specs.Laws.{MajorityIsMostFrequent, MapIsOneArea, OrderDoesNotMatter};
+ghost use Rattle.area_ops.specs.Laws.{MapIsOneArea, OrderDoesNotMatter};
 
 /// The order of places does not matter: the same places in another order give each class the same outcome, and a partial of
 /// them is a partial of them in that order. So partials of the parts of a map, merged in any order, are that of the map.
 pub fn the_order_of_places_does_not_matter()
     ensures { OrderDoesNotMatter }
-{}
-
-/// The majority of numbers is what it is said to be: a number that none is more frequent than, and the least of those that are
-/// as frequent.
-pub fn a_majority_is_the_most_frequent()
-    ensures { MajorityIsMostFrequent }
 {}
 
 /// A map is one area: where the operand of the classes is one cell, the numbers of its class are those of all cells of the map.

@@ -11,7 +11,5 @@ mod partial;
 mod results;
 mod tally;
 
-pub use laws::{
-    a_majority_is_the_most_frequent, a_map_is_one_area, the_order_of_places_does_not_matter,
-};
+pub use laws::{a_map_is_one_area, the_order_of_places_does_not_matter};
 pub use partial::Partial;

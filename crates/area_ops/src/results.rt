@@ -8,7 +8,7 @@ ghost use Rattle.std.specs.Ordering.{int_cmp};
 ghost use Rattle.text_base.specs.Limits.{most_cells};
 ghost use Rattle.tile_map.specs.Args.{SpansPlaces, arg_cell};
 ghost use Rattle.tile_map.specs.Parts.{part_of};
-ghost use Rattle.region_meaning.specs.AreaFrequency.{occurrences};
+ghost use Rattle.region_meaning.specs.Numbers.{occurrences};
 ghost use Rattle.region_meaning.specs.AreaResults.{area_result};
 ghost use Rattle.area_ops.specs.inside.Counts.{AreCounts, count_at, counts_numbers, member_cmp};
 ghost use Rattle.area_ops.specs.inside.Leaders.{led_by_entries, led_result, place_result, class_result};

@@ -1,43 +1,25 @@
 -- The results of area operations. Scalars count millionths.
-use Rattle.std.specs.Prelude.{ℤ, pos, ◌+ℤ◌, ◌*ℤ◌, ◌*◌, List, [], ◌∷◌, length, Ok}
-use Rattle.std.specs.Int.{int_max, int_min}
-use Rattle.std.specs.Ordering.{int_eq}
-use Rattle.std.specs.Set.{distinct_count}
+use Rattle.std.specs.Prelude.{ℤ, pos, ◌*ℤ◌, ◌*◌, List, [], ◌∷◌, length, Ok}
 use Rattle.cell_values.specs.declared.kind.Kind.TheVariants.{Scalar}
 use Rattle.cell_values.specs.declared.cell.Cell.{Cell}
 use Rattle.cell_values.specs.declared.cell.Cell.TheVariants.{Mv, Val}
 use Rattle.cell_values.specs.Kinds.{cell_of_number}
-use Rattle.cell_values.specs.Rounding.{nearest}
 use Rattle.cell_values.specs.Units.{million}
 use Rattle.tile_map.specs.Parts.{Outcome}
 use Rattle.region_meaning.specs.declared.area.AreaOp.{AreaOp}
 use Rattle.region_meaning.specs.declared.area.AreaOp.TheVariants.{Total, Average, Minimum, Maximum, Diversity, Majority, Area}
 use Rattle.region_meaning.specs.Areas.{AreaPlace, numbers_of}
-use Rattle.region_meaning.specs.inside.AreaMajority.{most_frequent}
-
--- the sum of numbers, unbounded
-abbrev pub total_of : List ℤ → ℤ
-total_of [] = pos 0
-total_of (x ∷ xs) = x +ℤ total_of xs
-
--- the least of a number and further ones
-abbrev pub least_of : ℤ → List ℤ → ℤ
-least_of x [] = x
-least_of x (y ∷ ys) = int_min x (least_of y ys)
-
--- the greatest of a number and further ones
-abbrev pub greatest_of : ℤ → List ℤ → ℤ
-greatest_of x [] = x
-greatest_of x (y ∷ ys) = int_max x (greatest_of y ys)
+use Rattle.region_meaning.specs.Numbers.{average_of, diversity_of, greatest_of, least_of, total_of}
+use Rattle.region_meaning.specs.inside.MostFrequent.{most_frequent}
 
 -- what an operation gives of the numbers of an area: a missing value where there is none
 unfoldable pub area_result : AreaOp → List ℤ → Outcome
 area_result op [] = Ok Mv
 area_result Total (x ∷ xs) = cell_of_number Scalar (total_of (x ∷ xs))
-area_result Average (x ∷ xs) = cell_of_number Scalar (nearest (total_of (x ∷ xs)) (length (x ∷ xs)))
+area_result Average (x ∷ xs) = cell_of_number Scalar (average_of (x ∷ xs))
 area_result Minimum (x ∷ xs) = Ok (Val (least_of x xs))
 area_result Maximum (x ∷ xs) = Ok (Val (greatest_of x xs))
-area_result Diversity (x ∷ xs) = cell_of_number Scalar (pos (distinct_count int_eq (x ∷ xs) * million))
+area_result Diversity (x ∷ xs) = cell_of_number Scalar (pos (diversity_of (x ∷ xs) * million))
 area_result Majority (x ∷ xs) = Ok (Val (most_frequent (x ∷ xs) x))
 area_result Area (x ∷ xs) = Ok (Val (pos (length (x ∷ xs)) *ℤ pos million))
 

@@ -1,7 +1,7 @@
-pub mod AreaFrequency
 pub mod AreaResults
 pub mod Areas
-pub mod WindowFrequency
+pub mod Laws
+pub mod Numbers
 pub mod WindowResults
 pub mod Windows
 pub mod inside

@@ -1,2 +1,1 @@
-pub mod AreaMajority
-pub mod WindowMajority
+pub mod MostFrequent

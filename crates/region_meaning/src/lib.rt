@@ -5,7 +5,9 @@
 #![tactic(auto)]
 
 mod area;
+mod laws;
 mod window;
 
 pub use area::AreaOp;
+pub use laws::a_majority_is_the_most_frequent;
 pub use window::WindowOp;

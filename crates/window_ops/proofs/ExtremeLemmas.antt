@@ -11,6 +11,7 @@ use Rattle.tile_map.proofs.Callers.{get_or-cut_of, length-cut_of}
 use Rattle.tile_map.proofs.CutLemmas.{between-map_range}
 use Rattle.window_ops.specs.declared.extremes.Extreme.{Extreme}
 use Rattle.window_ops.specs.declared.extremes.Extreme.TheVariants.{Least, Greatest}
+use Rattle.region_meaning.specs.Numbers.{greatest_of, least_of}
 use Rattle.region_meaning.specs.WindowResults.{window_result}
 use Rattle.region_meaning.specs.Windows.{present_values, window_outcome}
 use Rattle.window_ops.specs.inside.Extremes.{extreme_cell, extreme_value, extreme_op}
@@ -44,11 +45,24 @@ turn e (Val a) (Val b) = ap Val (value_turn e a b)
 pub unordered : (e : Extreme) → IsUnordered Cell (extreme_cell e) Mv
 unordered e = record { group = group e; turn = turn e; none_left = λ a. refl }
 
+-- the extreme of a value and further ones
+abbrev extreme_of : Extreme → ℤ → List ℤ → ℤ
+extreme_of Least = least_of
+extreme_of Greatest = greatest_of
+
+-- of two values first
+extreme_of-first : (e : Extreme) (a b : ℤ) (xs : List ℤ) → extreme_of e (extreme_value e a b) xs ≡ extreme_of e a (b ∷ xs)
+extreme_of-first Least a b [] = refl
+extreme_of-first Greatest a b [] = refl
+extreme_of-first Least a b (x ∷ xs) = value_group Least a b (least_of x xs)
+extreme_of-first Greatest a b (x ∷ xs) = value_group Greatest a b (greatest_of x xs)
+
 -- the extreme of a value and cells is that of the values
-extreme-values : (e : Extreme) (a : ℤ) (cells : List Cell) → fold (extreme_cell e) (Val a) cells ≡ Val (fold (extreme_value e) a (present_values cells))
-extreme-values e a [] = refl
+extreme-values : (e : Extreme) (a : ℤ) (cells : List Cell) → fold (extreme_cell e) (Val a) cells ≡ Val (extreme_of e a (present_values cells))
+extreme-values Least a [] = refl
+extreme-values Greatest a [] = refl
 extreme-values e a (Mv ∷ cells) = extreme-values e a cells
-extreme-values e a (Val b ∷ cells) = extreme-values e (extreme_value e a b) cells
+extreme-values e a (Val b ∷ cells) = extreme-values e (extreme_value e a b) cells ∙ ap Val (extreme_of-first e a b (present_values cells))
 
 outcome-first : (e : Extreme) (a : ℤ) (cells : List Cell) → window_result (extreme_op e) (a ∷ present_values cells) ≡ Ok (fold (extreme_cell e) (Val a) cells)
 outcome-first Least a cells = ap (λ (x : Cell). let o : Outcome = Ok x in o) (sym (extreme-values Least a cells))

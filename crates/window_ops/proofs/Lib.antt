@@ -6,6 +6,5 @@ pub mod SumLemmas
 pub mod ColumnLemmas
 pub mod ClassLemmas
 pub mod AroundLemmas
-pub mod MajorityLemmas
 pub mod OneCellLemmas
 pub mod RoomLemmas

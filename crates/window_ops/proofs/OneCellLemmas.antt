@@ -1,6 +1,6 @@
 -- Windows of one cell.
 use Rattle.std.proofs.Common.{◌≡◌, ℕ, ◌+◌, ◌*◌, ◌/◌, ◌%◌, ◌<◌, List, [], ◌∷◌, length, get_or, refl, sym, ap, subst, ◌∙◌, arith, ℤ, pos, ◌+ℤ◌}
-use Rattle.std.specs.Prelude.{Bool, Ok, Err, unsigned_abs, if◌then◌else◌}
+use Rattle.std.specs.Prelude.{Bool, true, false, Ok, Err, unsigned_abs, if◌then◌else◌}
 use Rattle.std.proofs.lemmas.Int.{ints}
 use Rattle.std.proofs.lemmas.List.{same_lists}
 use Rattle.std.proofs.lemmas.Nat.{div-add-mod'}
@@ -20,6 +20,7 @@ use Rattle.region_meaning.specs.declared.window.WindowOp.{WindowOp}
 use Rattle.region_meaning.specs.declared.window.WindowOp.TheVariants.{Total, Average, Minimum, Maximum, Diversity, Majority}
 use Rattle.window_ops.specs.Laws.{OneCellIsItself, outcome_of_one}
 use Rattle.region_meaning.specs.WindowResults.{window_result}
+use Rattle.region_meaning.specs.inside.MostFrequent.{is_ahead, most_frequent}
 use Rattle.region_meaning.specs.Windows.{present_values, single, window_outcome}
 use Rattle.window_ops.proofs.WindowLemmas.{window_of-reach_0}
 
@@ -38,17 +39,23 @@ nearest_one n =
 number_cell : (n : ℤ) → IsValue Scalar n → (let o : Outcome = cell_of_number Scalar n in o) ≡ Ok (Val n)
 number_cell n fits = ap (λ (b : Bool). let o : Outcome = if b then Ok (Val n) else Err (record {}) in o) (test-from_value Scalar n fits)
 
-sum_one : (n : ℤ) → pos 0 +ℤ n ≡ n
+sum_one : (n : ℤ) → n +ℤ pos 0 ≡ n
 sum_one n = omega (arith, ints)
+
+-- one of a number and itself
+either : (b : Bool) (n : ℤ) → (if b then n else n) ≡ n
+either true n = refl
+either false n = refl
 
 -- what an operation gives of one cell
 one_value : (op : WindowOp) (n : ℤ) → IsValue Scalar n → window_result op (n ∷ []) ≡ outcome_of_one op (Val n)
+unfolding most_frequent
 one_value Total n fits = ap (cell_of_number Scalar) (sum_one n) ∙ number_cell n fits
 one_value Average n fits = ap (λ (m : ℤ). cell_of_number Scalar (nearest m 1)) (sum_one n) ∙ (ap (cell_of_number Scalar) (nearest_one n) ∙ number_cell n fits)
 one_value Minimum n fits = refl
 one_value Maximum n fits = refl
 one_value Diversity n fits = refl
-one_value Majority n fits = refl
+one_value Majority n fits = ap (λ (m : ℤ). let o : Outcome = Ok (Val m) in o) (either (is_ahead (n ∷ []) n n) n)
 
 none : (op : WindowOp) → window_result op [] ≡ outcome_of_one op Mv
 none op = refl

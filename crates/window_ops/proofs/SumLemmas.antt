@@ -16,7 +16,8 @@ use Rattle.tile_map.proofs.Callers.{get_or-cut_of, length-cut_of}
 use Rattle.window_ops.specs.declared.sum.Sum.{Sum}
 use Rattle.window_ops.specs.declared.sum.Summed.{Summed}
 use Rattle.window_ops.specs.declared.sum.Summed.TheVariants.{All, Mean}
-use Rattle.region_meaning.specs.WindowResults.{window_result, windowtotal_of}
+use Rattle.region_meaning.specs.Numbers.{total_of}
+use Rattle.region_meaning.specs.WindowResults.{window_result}
 use Rattle.region_meaning.specs.Windows.{present_values, window_outcome}
 use Rattle.window_ops.specs.inside.Outcomes.{longest_window, over}
 use Rattle.window_ops.specs.inside.Sums.{IsSmall, column_sum, most_summed, no_sum, outcome_of_sum, outcome_of_values_sum, sum_at, sum_join, sum_of_cell, sum_op_of}
@@ -38,22 +39,22 @@ unordered = record {
 }
 
 -- the sum of cells is that of their values
-fold-cells : (a : ℤ) (n : ℕ) (cells : List Cell) → fold sum_join (let s : Sum = record { total = a; count = n } in s) (map sum_of_cell cells) ≡ (let s : Sum = record { total = fold ◌+ℤ◌ a (present_values cells); count = n + length (present_values cells) } in s)
-fold-cells a n [] = made a a n (n + 0) refl (omega arith)
+fold-cells : (a : ℤ) (n : ℕ) (cells : List Cell) → fold sum_join (let s : Sum = record { total = a; count = n } in s) (map sum_of_cell cells) ≡ (let s : Sum = record { total = a +ℤ total_of (present_values cells); count = n + length (present_values cells) } in s)
+fold-cells a n [] = made a (a +ℤ pos 0) n (n + 0) (omega (arith, ints)) (omega arith)
 fold-cells a n (Mv ∷ cells) =
     ap (λ (s : Sum). fold sum_join s (map sum_of_cell cells)) (made (a +ℤ pos 0) a (n + 0) n (omega (arith, ints)) (omega arith))
     ∙ fold-cells a n cells
 fold-cells a n (Val v ∷ cells) =
     fold-cells (a +ℤ v) (n + 1) cells
-    ∙ made (fold ◌+ℤ◌ (a +ℤ v) (present_values cells)) (fold ◌+ℤ◌ (a +ℤ v) (present_values cells)) (n + 1 + length (present_values cells)) (n + length (v ∷ present_values cells)) refl (omega arith)
+    ∙ made ((a +ℤ v) +ℤ total_of (present_values cells)) (a +ℤ (v +ℤ total_of (present_values cells))) (n + 1 + length (present_values cells)) (n + length (v ∷ present_values cells)) (omega (arith, ints)) (omega arith)
 
 -- the sum of values
 abbrev sum_of : List ℤ → Sum
-sum_of values = record { total = windowtotal_of values; count = length values }
+sum_of values = record { total = total_of values; count = length values }
 
 fold-cells-none : (cells : List Cell) → fold sum_join no_sum (map sum_of_cell cells) ≡ sum_of (present_values cells)
 fold-cells-none cells =
-    fold-cells (pos 0) 0 cells ∙ made (windowtotal_of (present_values cells)) (windowtotal_of (present_values cells)) (0 + length (present_values cells)) (length (present_values cells)) refl (omega arith)
+    fold-cells (pos 0) 0 cells ∙ made (pos 0 +ℤ total_of (present_values cells)) (total_of (present_values cells)) (0 + length (present_values cells)) (length (present_values cells)) (omega (arith, ints)) (omega arith)
 
 not_zero : (n : ℕ) → 0 < n → (n == 0) ≡ false
 not_zero n some = grind (arith, nat_tests)

@@ -1,5 +1,5 @@
 -- What holds of all windows.
-use Rattle.std.specs.Prelude.{◌≡◌, ℕ, ◌+◌, ◌*◌, ◌/◌, ◌%◌, ◌<◌, ◌≤◌, ◌↔◌, ℤ, pos, List, ◌∷◌, Ok}
+use Rattle.std.specs.Prelude.{◌≡◌, ℕ, ◌+◌, ◌*◌, ◌/◌, ◌%◌, ◌<◌, ◌≤◌, ◌↔◌, pos, List, Ok}
 use Rattle.cell_values.specs.declared.kind.Kind.TheVariants.{Scalar}
 use Rattle.cell_values.specs.declared.cell.Cell.{Cell}
 use Rattle.cell_values.specs.declared.cell.Cell.TheVariants.{Mv, Val}
@@ -10,8 +10,6 @@ use Rattle.tile_map.specs.Parts.{Outcome}
 use Rattle.tile_map.specs.Rects.{HoldsPlace}
 use Rattle.region_meaning.specs.declared.window.WindowOp.{WindowOp}
 use Rattle.region_meaning.specs.declared.window.WindowOp.TheVariants.{Diversity}
-use Rattle.region_meaning.specs.WindowFrequency.{IsMajorityAmong}
-use Rattle.region_meaning.specs.inside.WindowMajority.{windowmajority_of}
 use Rattle.region_meaning.specs.Windows.{window_of, window_outcome}
 
 -- two numbers are at most k apart
@@ -24,11 +22,6 @@ WindowsHoldWhatIsNear =
     (rows cols k place other : ℕ) → place < rows * cols → other < rows * cols →
     HoldsPlace cols (window_of rows cols k place) other
     ↔ (AreWithin k (place / cols) (other / cols) × AreWithin k (place % cols) (other % cols))
-
--- the majority that is found is one, and there is no other
-abbrev pub WindowMajorityIsMostFrequent : Type 0
-WindowMajorityIsMostFrequent =
-    (first : ℤ) (rest : List ℤ) (value : ℤ) → IsMajorityAmong (first ∷ rest) value ↔ (value ≡ windowmajority_of first rest)
 
 -- what an operation gives of one cell: 1 for the diversity of a value, and else the cell
 abbrev pub outcome_of_one : WindowOp → Cell → Outcome

@@ -3,15 +3,15 @@
 ghost use Rattle.std.specs.Prelude.{◌≡◌, ◌<◌, ◌≤◌, ◌*◌, ◌+◌, ◌++◌, ◌∷◌, [], ℕ, ℤ, length, slice_index_or, pos, unwrap_or, IfOk, OnOk};
 ghost use Rattle.std.specs.HashMap.{get};
 ghost use Rattle.std.specs.Ordering.{int_eq};
-ghost use Rattle.std.specs.Set.{distinct_count};
 ghost use Rattle.text_base.specs.Limits.{most_cells};
 ghost use Rattle.tile_map.specs.Cuts.{cut_of};
 ghost use Rattle.tile_map.specs.Parts.{part_of};
 ghost use Rattle.tile_map.specs.Rects.{IsInMap, cell_count, place_in};
-ghost use Rattle.region_meaning.specs.WindowFrequency.{frequency_among};
+ghost use Rattle.region_meaning.specs.Numbers.{diversity_of, occurrences};
 ghost use Rattle.region_meaning.specs.WindowResults.{window_result};
 ghost use Rattle.region_meaning.specs.Windows.{longest_reach, present_values, window_outcome};
-ghost use Rattle.window_ops.specs.inside.Classes.{class_op_of, majority_from};
+ghost use Rattle.region_meaning.specs.inside.MostFrequent.{most_frequent};
+ghost use Rattle.window_ops.specs.inside.Classes.{class_op_of};
 
 use crate::outcomes::Outcomes;
 use crate::reach::reach;
@@ -72,7 +72,7 @@ fn values_in(cells: &[Cell], cols: u32, rect: Rect, into: &mut Vec<i64>) -> Resu
 
 // How many different values there are.
 fn distinct(alloc: Global, values: &[i64]) -> Result<usize, AllocError>
-    ensures value { IfOk result (λ n. n ≡ distinct_count int_eq values.now) }
+    ensures value { IfOk result (λ n. n ≡ diversity_of values.now) }
     ensures few { IfOk result (λ n. n ≤ length values.now) }
 {
     let mut seen = HashSet::new(alloc);
@@ -85,7 +85,7 @@ fn distinct(alloc: Global, values: &[i64]) -> Result<usize, AllocError>
 // How often each value stands there.
 fn counts(alloc: Global, values: &[i64]) -> Result<HashMap<i64, usize>, AllocError>
     requires { length values.now ≤ most_cells }
-    ensures { IfOk result (λ counts. (value : ℤ) → unwrap_or (get int_eq counts value) 0 ≡ frequency_among values.now value) }
+    ensures { IfOk result (λ counts. (value : ℤ) → unwrap_or (get int_eq counts value) 0 ≡ occurrences values.now value) }
 {
     let mut counts = HashMap::new(alloc);
     for value in values {
@@ -132,7 +132,7 @@ impl Ranked {
 fn majority(alloc: Global, values: &[i64]) -> Result<i64, AllocError>
     requires some { 0 < length values.now }
     requires few { length values.now ≤ most_cells }
-    ensures { IfOk result (λ value. value ≡ majority_from values.now (slice_index_or values.now 0 (pos 0))) }
+    ensures { IfOk result (λ value. value ≡ most_frequent values.now (slice_index_or values.now 0 (pos 0))) }
 {
     let counts = counts(alloc, values)?;
     let mut best = Ranked::of(&counts, values[0]);

@@ -15,7 +15,5 @@ mod reach;
 mod sum;
 mod sums;
 
-pub use laws::{
-    a_majority_is_the_most_frequent, a_window_of_one_cell_is_the_cell, windows_hold_what_is_near,
-};
+pub use laws::{a_window_of_one_cell_is_the_cell, windows_hold_what_is_near};
 pub use part::window_part;

@@ -18,7 +18,7 @@ use Rattle.region_meaning.specs.declared.area.AreaOp.{AreaOp}
 use Rattle.region_meaning.specs.declared.area.AreaOp.TheVariants.{Total, Average, Minimum, Maximum, Diversity, Majority, Area}
 use Rattle.area_ops.specs.declared.tally.Tally.{Tally}
 use Rattle.region_meaning.specs.Areas.{taken_by_class}
-use Rattle.region_meaning.specs.AreaResults.{greatest_of, least_of, total_of}
+use Rattle.region_meaning.specs.Numbers.{greatest_of, least_of, total_of}
 
 -- the tally of no number
 abbrev pub no_tally : Tally

@@ -1,7 +1,6 @@
 -- What is asked of the classes in a window.
-use Rattle.std.specs.Prelude.{ℤ, List, fold, ◌==◌, ◌&&◌, ◌||◌, nat_lt, int_lt, if◌then◌else◌}
-use Rattle.region_meaning.specs.WindowFrequency.{frequency_among}
-use Rattle.region_meaning.specs.inside.WindowMajority.{first_of_two}
+use Rattle.std.specs.Prelude.{ℤ, List, ◌==◌, ◌&&◌, ◌||◌, nat_lt, int_lt, if◌then◌else◌}
+use Rattle.region_meaning.specs.Numbers.{occurrences}
 use Rattle.window_ops.specs.declared.classes.Ranked.{Ranked}
 use Rattle.region_meaning.specs.declared.window.WindowOp.{WindowOp}
 use Rattle.region_meaning.specs.declared.window.WindowOp.TheVariants.{Diversity, Majority}
@@ -15,12 +14,8 @@ class_op_of MostFrequent = Majority
 
 -- a value with how often it stands among the values
 abbrev pub ranked : List ℤ → ℤ → Ranked
-ranked values value = record { value = value; count = frequency_among values value }
+ranked values value = record { value = value; count = occurrences values value }
 
 -- the one of two values that is the more frequent one, or the less one of two that are as frequent
 abbrev pub first_ranked : Ranked → Ranked → Ranked
 first_ranked a b = if nat_lt a.count b.count || ((b.count == a.count) && int_lt b.value a.value) then b else a
-
--- the majority of some values, from a first one on
-abbrev pub majority_from : List ℤ → ℤ → ℤ
-majority_from values first = fold (first_of_two values) first values

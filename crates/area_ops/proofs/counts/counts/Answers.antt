@@ -2,7 +2,7 @@ use Rattle.std.proofs.Common.{◌≡◌, ◌+◌, List, ap, sym, ◌∙◌, arit
 use Rattle.text_base.specs.Limits.{most_cells}
 use Rattle.tile_map.specs.Args.{arg_cell}
 use Rattle.region_meaning.specs.Areas.{AreaPlace, area_places, numbers_of}
-use Rattle.region_meaning.specs.AreaFrequency.{occurrences}
+use Rattle.region_meaning.specs.Numbers.{occurrences}
 use Rattle.area_ops.specs.inside.Counts.{Member, count_at, times_given}
 use Rattle.area_ops.proofs.CountLemmas.{count-nothing, few-count, nothing_counted, one_more_count}
 use Rattle.area_ops.proofs.PlaceLemmas.{one_more_area}

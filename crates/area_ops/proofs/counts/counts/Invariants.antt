@@ -1,7 +1,7 @@
 use Rattle.std.proofs.Common.{◌≡◌, ◌≤◌, ℤ}
 use Rattle.text_base.specs.Limits.{most_cells}
 use Rattle.region_meaning.specs.Areas.{area_places, numbers_of}
-use Rattle.region_meaning.specs.AreaFrequency.{occurrences}
+use Rattle.region_meaning.specs.Numbers.{occurrences}
 use Rattle.area_ops.specs.inside.Counts.{AreCounts, Member, count_at}
 use Rattle.area_ops.proofs.counts.counts.Given as goal
 

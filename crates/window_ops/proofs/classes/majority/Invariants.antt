@@ -1,5 +1,5 @@
 use Rattle.std.proofs.Common.{◌≡◌, pos, fold, take, get_or}
-use Rattle.region_meaning.specs.inside.WindowMajority.{first_of_two}
+use Rattle.region_meaning.specs.inside.MostFrequent.{first_of_two}
 use Rattle.window_ops.specs.inside.Classes.{ranked}
 use Rattle.window_ops.proofs.classes.majority.Given as goal
 

@@ -7,7 +7,7 @@ use Rattle.tile_map.proofs.Callers.{length-cut_of}
 use Rattle.region_meaning.specs.WindowResults.{window_result}
 use Rattle.region_meaning.specs.Windows.{present_values, window_outcome}
 use Rattle.window_ops.specs.inside.Classes.{class_op_of}
-use Rattle.window_ops.proofs.ClassLemmas.{length-values}
+use Rattle.region_meaning.proofs.Callers.{length-present_values}
 use Rattle.window_ops.proofs.WindowLemmas.{between, window-between}
 use Rattle.window_ops.proofs.classes.window_class.Goals as goal
 
@@ -27,7 +27,7 @@ outcome-requires c =
     let below = in_map.below in
     let right = in_map.right in
     let fits : cell_count w ≤ c.args.rows * c.args.cols = mul-le w.rows w.cols c.args.rows c.args.cols (omega arith) (omega arith) in
-    let some : length (present_values (cut_of c.args.cols cells w)) ≤ length (cut_of c.args.cols cells w) = length-values (cut_of c.args.cols cells w) in
+    let some : length (present_values (cut_of c.args.cols cells w)) ≤ length (cut_of c.args.cols cells w) = length-present_values (cut_of c.args.cols cells w) in
     let size : length (cut_of c.args.cols cells w) ≡ cell_count w = length-cut_of c.args.cols cells w in
     let is : length c.deref.result.now ≡ length (present_values (cut_of c.args.cols cells w)) = ap length (c.deref.ensures.value ∙ c.in_ok-values_in.ensures) in
     let few = c.requires.few in

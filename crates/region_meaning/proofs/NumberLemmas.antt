@@ -2,7 +2,7 @@
 use Rattle.std.proofs.Common.{◌≡◌, ℕ, ◌+◌, ◌<◌, ◌≤◌, ℤ, Bool, true, false, cond, ◌⊎◌, inl, inr, List, [], ◌∷◌, ◌++◌, length, refl, sym, subst, ap, ◌∙◌, arith}
 use Rattle.std.specs.Prelude.{◌≤ℤ◌, ◌==◌, ◌&&◌, ◌||◌, nat_lt, int_lt}
 use Rattle.std.specs.Cmp.{int_eq_equiv}
-use Rattle.std.specs.List.{Contains, IsDistinct, best_of}
+use Rattle.std.specs.List.{Contains, IsDistinct, fold}
 use Rattle.std.specs.Ordering.{int_eq}
 use Rattle.std.specs.Set.{distinct_count, is_member}
 use Rattle.std.proofs.lemmas.Bool.Decides.{Decides-int_eq, nat_tests, same_from_decides}
@@ -12,9 +12,9 @@ use Rattle.std.proofs.lemmas.List.Folds.{list_any-append}
 use Rattle.std.proofs.lemmas.Map.Keys.{IsDistinct-push}
 use Rattle.std.proofs.lemmas.Map.Made.{length-from_keys}
 use Rattle.std.proofs.lemmas.Map.Views.{Contains-from_any, list_any-from_Contains}
-use Rattle.region_meaning.specs.AreaFrequency.{IsMostFrequent, occurrences}
-use Rattle.area_ops.specs.Laws.{MajorityIsMostFrequent}
-use Rattle.region_meaning.specs.inside.AreaMajority.{is_ahead, most_frequent}
+use Rattle.region_meaning.specs.Laws.{MajorityIsMostFrequent}
+use Rattle.region_meaning.specs.Numbers.{IsMostFrequent, occurrences}
+use Rattle.region_meaning.specs.inside.MostFrequent.{first_of_two, is_ahead, most_frequent}
 
 -- two numbers that are equal by the test, in either order
 pub equal_numbers : (x y : ℤ) → int_eq x y ≡ true → x ≡ y
@@ -131,12 +131,12 @@ best_with xs a y ys next best p q which is = record {
   ];
 }
 
-best_by : (xs : List ℤ) (a y : ℤ) (ys : List ℤ) (b : Bool) → is_ahead xs y a ≡ b → IsBest xs (cond b y a) ys (best_of (is_ahead xs) (cond b y a) ys) →
-    IsBest xs a (y ∷ ys) (best_of (is_ahead xs) (cond b y a) ys)
-best_by xs a y ys true e is = best_with xs a y ys y (best_of (is_ahead xs) y ys) (ahead xs y a e) (before_itself xs y) (inr refl) is
-best_by xs a y ys false e is = best_with xs a y ys a (best_of (is_ahead xs) a ys) (before_itself xs a) (not_ahead xs y a e) (inl refl) is
+best_by : (xs : List ℤ) (a y : ℤ) (ys : List ℤ) (b : Bool) → is_ahead xs y a ≡ b → IsBest xs (cond b y a) ys (fold (first_of_two xs) (cond b y a) ys) →
+    IsBest xs a (y ∷ ys) (fold (first_of_two xs) (cond b y a) ys)
+best_by xs a y ys true e is = best_with xs a y ys y (fold (first_of_two xs) y ys) (ahead xs y a e) (before_itself xs y) (inr refl) is
+best_by xs a y ys false e is = best_with xs a y ys a (fold (first_of_two xs) a ys) (before_itself xs a) (not_ahead xs y a e) (inl refl) is
 
-best : (xs : List ℤ) (a : ℤ) (ys : List ℤ) → IsBest xs a ys (best_of (is_ahead xs) a ys)
+best : (xs : List ℤ) (a : ℤ) (ys : List ℤ) → IsBest xs a ys (fold (first_of_two xs) a ys)
 best xs a [] = record { given = before_itself xs a; others = λ w some. absurd (omega (arith, some)); one = inl refl }
 best xs a (y ∷ ys) = best_by xs a y ys (is_ahead xs y a) refl (best xs (cond (is_ahead xs y a) y a) ys)
 
@@ -145,7 +145,7 @@ unfolding most_frequent
 first-most_frequent first rest =
     let xs : List ℤ = first ∷ rest in
     let is = best xs first xs in
-    let r = best_of (is_ahead xs) first xs in
+    let r = fold (first_of_two xs) first xs in
     record {
       occurs = elim is.one [
         | inl same ↦ subst (λ (z : ℤ). 0 < occurrences xs z) (sym same) (occurs_at_front first rest)
@@ -199,6 +199,11 @@ first-said xs a is = record {
   least = λ other same. let some = is.occurs in (is.first other (omega (arith, some, same))).least same;
 }
 
+-- the most frequent of some numbers is one of them
+pub most_frequent-stands : (first : ℤ) (rest : List ℤ) → Contains (first ∷ rest) (most_frequent (first ∷ rest) first)
+most_frequent-stands first rest = (first-said (first ∷ rest) (most_frequent (first ∷ rest) first) (first-most_frequent first rest)).stands
+
+-- the majority is the most frequent number, and no other number is
 pub law : MajorityIsMostFrequent
 law first rest a = (
   (λ is. is_most_frequent first rest a (said-first (first ∷ rest) a is)),
