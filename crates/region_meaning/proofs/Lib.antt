@@ -1,3 +1,5 @@
+pub mod AreaLemmas
 pub mod Callers
 pub mod NumberLemmas
+pub mod ValueLemmas
 pub mod WindowLemmas
