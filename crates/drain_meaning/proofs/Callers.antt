@@ -10,3 +10,5 @@ pub use Rattle.drain_meaning.proofs.EndLemmas.{drains_tells, ends_meet, ends_uni
 pub use Rattle.drain_meaning.proofs.MaskLemmas.{masked_drain}
 -- lists of places
 pub use Rattle.drain_meaning.proofs.SumLemmas.{contains_cases, contains_first, contains_later, map_alike}
+-- the first unsound place
+pub use Rattle.drain_meaning.proofs.UnsoundLemmas.{first_unsound-found}

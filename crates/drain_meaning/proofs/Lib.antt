@@ -5,3 +5,4 @@ pub mod MapLemmas
 pub mod MaskLemmas
 pub mod PathLemmas
 pub mod SumLemmas
+pub mod UnsoundLemmas

@@ -1,5 +1,5 @@
 -- What holds of all sound drain maps.
-use Rattle.std.specs.Prelude.{◌≡◌, ℕ, ◌<◌, List, ◌∷◌, length, map}
+use Rattle.std.specs.Prelude.{◌≡◌, ℕ, ◌<◌, List, ◌∷◌, length, map, Option, Some, None}
 use Rattle.std.specs.List.{filter, range_with_len}
 use Rattle.cell_values.specs.declared.cell.Cell.{Cell}
 use Rattle.drain_meaning.specs.declared.end.FlowEnd.{FlowEnd}
@@ -10,8 +10,9 @@ use Rattle.drain_meaning.specs.Drains.{DrainMap, IsDrainMap, next_at}
 use Rattle.drain_meaning.specs.Equations.{passing, transport_of}
 use Rattle.drain_meaning.specs.Flows.{material, total_flow}
 use Rattle.drain_meaning.specs.Masks.{lddmask_of, leads_on}
-use Rattle.drain_meaning.specs.Paths.{IsDirected, IsFollowedBy, IsSound, path_of}
+use Rattle.drain_meaning.specs.Paths.{IsDirected, IsFirstUnsound, IsFollowedBy, IsSound, path_of}
 use Rattle.drain_meaning.specs.Sound.{IsDrain}
+use Rattle.drain_meaning.specs.inside.FirstUnsound.{first_unsound}
 use Rattle.drain_meaning.specs.Transports.{AreEnds, Transport, end_of}
 
 -- the cell that another one drains into is a cell of the map
@@ -52,6 +53,15 @@ abbrev pub ChooseOnPaths : Type 0
 ChooseOnPaths =
     (m : DrainMap) (a b : ℕ → Cell) → IsSound m → (c : ℕ) → IsDirected m c →
     end_of (transport_of op.Catchment) m a b c ≡ passing (catchment_of m a c)
+
+-- a map has no unsound place, or its first one is this
+abbrev pub HasFirstUnsound : DrainMap → Option ℕ → Type 0
+HasFirstUnsound m None = IsSound m
+HasFirstUnsound m (Some place) = IsFirstUnsound m place
+
+-- the first unsound place that is found is the first unsound place, and where none is found the map is sound
+abbrev pub FindTheFirstUnsound : Type 0
+FindTheFirstUnsound = (m : DrainMap) → HasFirstUnsound m (first_unsound m)
 
 -- the part of a sound map that a mask keeps is a sound map
 abbrev pub StaySound : Type 0

@@ -1,7 +1,7 @@
 //! What holds of all drain maps, in the subject's words.
 
 ghost use Rattle.drain_meaning.specs.Examples.{MapExamples, TransportExamples};
-ghost use Rattle.drain_meaning.specs.Laws.{AreTheOnlyEnds, ChooseOnPaths, KeepMass, ListTheirCells, MeetTheirEquation, StayInTheMap, StaySound, SumOverPaths};
+ghost use Rattle.drain_meaning.specs.Laws.{AreTheOnlyEnds, ChooseOnPaths, FindTheFirstUnsound, KeepMass, ListTheirCells, MeetTheirEquation, StayInTheMap, StaySound, SumOverPaths};
 
 /// Worked examples come out as they were worked out by hand.
 pub fn worked_examples_come_out()
@@ -17,6 +17,12 @@ pub fn directions_stay_in_the_map()
 /// The path of a cell, as a list, has the cell and those that follow on it down to a pit.
 pub fn paths_list_their_cells()
     ensures { ListTheirCells }
+{}
+
+/// The first unsound place that is found by following the directions from each place is the first place whose path fails, and
+/// where none is found the map is sound.
+pub fn the_first_unsound_place_is_found()
+    ensures { FindTheFirstUnsound }
 {}
 
 /// On a sound map the ends of each transport meet its equation at each cell with a direction, and no other ends do.

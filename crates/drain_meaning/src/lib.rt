@@ -23,7 +23,7 @@ pub use flow::Flow;
 pub use laws::{
     accumulations_keep_mass, accumulations_sum_over_paths, catchments_choose_on_paths,
     directions_stay_in_the_map, masked_maps_stay_sound, paths_list_their_cells,
-    transports_meet_their_equation, worked_examples_come_out,
+    the_first_unsound_place_is_found, transports_meet_their_equation, worked_examples_come_out,
 };
 pub use next::{Next, next_cell};
 pub use op::{FlowOp, NearOp, Orient};
