@@ -1,11 +1,15 @@
 -- What is computed at a place.
-use Rattle.std.specs.Prelude.{◌≡◌, ℕ, ◌<◌, Bool, true, false, List, [], Option, Some, None, ⊤}
+use Rattle.std.specs.Prelude.{◌≡◌, ℕ, ◌<◌, Bool, true, false, List, [], Option, Some, None, Ok, ⊤}
 use Rattle.cell_values.specs.declared.kind.Kind.{Kind}
 use Rattle.cell_values.specs.declared.kind.Kind.TheVariants.{Boolean, Nominal, Ordinal, Scalar, Directional}
 use Rattle.cell_values.specs.declared.cell.Cell.{Cell}
+use Rattle.cell_values.specs.declared.cell.Cell.TheVariants.{Mv}
 use Rattle.cell_values.specs.Conversion.{IsConversion, conversion_of}
 use Rattle.tile_map.specs.Parts.{Outcome}
 use Rattle.map_meaning.specs.declared.op.Op.{Op}
+use Rattle.map_meaning.specs.declared.op.Op.TheVariants.{CopyOf, Add, Sub, Mul, Div, IntDiv, IntMod, Neg, Abs, RoundDown, RoundUp}
+use Rattle.map_meaning.specs.declared.op.Op.TheVariants.{RoundOff, Min, Max, Equal, NotEqual, Less, LessEqual, Greater, GreaterEqual}
+use Rattle.map_meaning.specs.declared.op.Op.TheVariants.{And, Or, Xor, Not, IfThen, IfElse, Cover, Defined}
 use Rattle.map_meaning.specs.declared.op.Op.TheVariants.{ToBoolean, ToNominal, ToOrdinal, ToScalar, ToDirectional}
 use Rattle.map_meaning.specs.declared.op.Op.TheVariants.{LookupBoolean, LookupNominal, LookupOrdinal, LookupScalar, LookupDirectional}
 use Rattle.map_meaning.specs.declared.op.Op.TheVariants.{TimeInputBoolean, TimeInputNominal, TimeInputOrdinal, TimeInputScalar}
@@ -16,9 +20,10 @@ use Rattle.map_meaning.specs.Rules.{Rule, Local, Setting, kind_at, of_kinds, ope
 use Rattle.cell_ops.specs.declared.work.CellWork.{CellWork}
 use Rattle.cell_ops.specs.declared.work.CellWork.TheVariants.{Plain, Convert, Lookup, SeriesAt}
 
--- what a rule gives of four cells
+-- what a rule gives of four cells at a place; one that looks at other places gives nothing of them
 abbrev pub of_cells : Rule → Setting → Cell → Cell → Cell → Cell → Outcome
 of_cells (Local f) setting a b c d = f setting a b c d
+of_cells _ setting a b c d = Ok Mv
 
 -- what a work gives of its operands' cells at one place
 unfoldable pub work_outcome : CellWork → Cell → Cell → Cell → Cell → Outcome
@@ -29,22 +34,35 @@ work_outcome (SeriesAt series step) a b c d = timeinput_of series.now step a
 
 -- the operation looks at nothing but its operands' cells
 abbrev pub is_plain : Op → Bool
-is_plain ToBoolean = false
-is_plain ToNominal = false
-is_plain ToOrdinal = false
-is_plain ToScalar = false
-is_plain ToDirectional = false
-is_plain LookupBoolean = false
-is_plain LookupNominal = false
-is_plain LookupOrdinal = false
-is_plain LookupScalar = false
-is_plain LookupDirectional = false
-is_plain TimeInputBoolean = false
-is_plain TimeInputNominal = false
-is_plain TimeInputOrdinal = false
-is_plain TimeInputScalar = false
-is_plain TimeInputDirectional = false
-is_plain _ = true
+is_plain CopyOf = true
+is_plain Add = true
+is_plain Sub = true
+is_plain Mul = true
+is_plain Div = true
+is_plain IntDiv = true
+is_plain IntMod = true
+is_plain Neg = true
+is_plain Abs = true
+is_plain RoundDown = true
+is_plain RoundUp = true
+is_plain RoundOff = true
+is_plain Min = true
+is_plain Max = true
+is_plain Equal = true
+is_plain NotEqual = true
+is_plain Less = true
+is_plain LessEqual = true
+is_plain Greater = true
+is_plain GreaterEqual = true
+is_plain And = true
+is_plain Or = true
+is_plain Xor = true
+is_plain Not = true
+is_plain IfThen = true
+is_plain IfElse = true
+is_plain Cover = true
+is_plain Defined = true
+is_plain _ = false
 
 -- the work is one that there is
 abbrev pub IsWork : CellWork → Type 0

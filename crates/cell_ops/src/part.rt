@@ -134,7 +134,25 @@ fn plain(
         | Op::TimeInputNominal
         | Op::TimeInputOrdinal
         | Op::TimeInputScalar
-        | Op::TimeInputDirectional => unreachable!(),
+        | Op::TimeInputDirectional
+        | Op::WindowTotal
+        | Op::WindowAverage
+        | Op::WindowMinimum
+        | Op::WindowMaximum
+        | Op::WindowDiversity
+        | Op::WindowMajority
+        | Op::AreaTotal
+        | Op::AreaAverage
+        | Op::AreaMinimum
+        | Op::AreaMaximum
+        | Op::AreaDiversity
+        | Op::AreaMajority
+        | Op::AreaArea
+        | Op::MapTotal
+        | Op::MapMinimum
+        | Op::MapMaximum
+        | Op::Near(_)
+        | Op::Flow(_) => unreachable!(),
     }
 }
 

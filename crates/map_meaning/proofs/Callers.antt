@@ -1,5 +1,5 @@
 -- What the crates above cite.
-use Rattle.std.proofs.Common.{◌≡◌, ℕ, ◌+◌, refl, true, cond, List, [], ◌∷◌, ◌++◌, length, map, sym, ◌∙◌, ap, Ok, Err, Result, arith}
+use Rattle.std.proofs.Common.{◌≡◌, ℕ, ◌+◌, refl, true, false, cond, List, [], ◌∷◌, ◌++◌, length, map, sym, ◌∙◌, ap, Ok, Err, Result, arith}
 use Rattle.std.specs.Prelude.{All}
 use Rattle.text_base.specs.Results.{◌>>=◌}
 use Rattle.cell_values.specs.declared.kind.Kind.{Kind}
@@ -13,7 +13,7 @@ use Rattle.map_meaning.specs.declared.program.Program.{Program}
 use Rattle.map_meaning.specs.declared.tree.Statement.{Statement}
 use Rattle.map_meaning.specs.declared.tree.Tree.{Tree}
 use Rattle.map_meaning.specs.declared.tree.Tree.TheVariants as tree
-use Rattle.map_meaning.specs.declared.tree.Tree.TheVariants.{rolls-Call, rolls-Input, rolls-LookUp, rolls-Name, rolls-Number, rolls-Stack, rolls-Time}
+use Rattle.map_meaning.specs.declared.tree.Tree.TheVariants.{rolls-Call, rolls-Input, rolls-CallWith, rolls-Mask, rolls-Name, rolls-Number, rolls-Stack, rolls-Time}
 use Rattle.map_meaning.specs.declared.tree.Tree.TheFolds.{fold-roll-Tree}
 use Rattle.map_meaning.specs.declared.tree.Tree.TheOpen.{Tree-F}
 use Rattle.map_meaning.specs.Evaluation.{Done, operation_value, operation_values, with_map}
@@ -24,7 +24,7 @@ use Rattle.map_meaning.specs.Laws.{IsItsRow}
 use Rattle.map_meaning.specs.declared.row.Ask.{Ask}
 use Rattle.map_meaning.specs.declared.row.Ask.TheVariants as ask
 use Rattle.map_meaning.specs.declared.row.Row.{Row}
-use Rattle.map_meaning.specs.Table.{allows, behind_file, is_file, is_kind, map_row, table_rows}
+use Rattle.map_meaning.specs.Table.{allows, before_length, behind_file, is_file, is_kind, is_length, map_row, table_rows}
 use Rattle.map_meaning.proofs.RowLaws as rows
 use Rattle.map_meaning.specs.Trees.{TreeMeaning, meaning_of, meaning_level, value_of_tree}
 
@@ -60,10 +60,15 @@ pub meaning_of-Stack : (kind : Kind) (input : ℕ) → meaning_of (tree.Stack ki
 unfolding meaning_of
 meaning_of-Stack kind input = ap meaning_of (sym (rolls-Stack kind input)) ∙ fold-roll-Tree TreeMeaning meaning_level (Tree-F.Stack kind input)
 
--- an operation that looks its results up
-pub meaning_of-LookUp : (kind : Kind) (op : Op) (file : ℕ) (operands : List Tree) → meaning_of (tree.LookUp kind op file operands) ≡ meaning_level (Tree-F.LookUp kind op file (map meaning_of operands))
+-- an operation that is told more than its operands
+pub meaning_of-CallWith : (kind : Kind) (op : Op) (file window : ℕ) (operands : List Tree) → meaning_of (tree.CallWith kind op file window operands) ≡ meaning_level (Tree-F.CallWith kind op file window (map meaning_of operands))
 unfolding meaning_of
-meaning_of-LookUp kind op file operands = ap meaning_of (sym (rolls-LookUp kind op file operands)) ∙ fold-roll-Tree TreeMeaning meaning_level (Tree-F.LookUp kind op file operands)
+meaning_of-CallWith kind op file window operands = ap meaning_of (sym (rolls-CallWith kind op file window operands)) ∙ fold-roll-Tree TreeMeaning meaning_level (Tree-F.CallWith kind op file window operands)
+
+-- the part of a drain map that a mask keeps
+pub meaning_of-Mask : (operands : List Tree) → meaning_of (tree.Mask operands) ≡ meaning_level (Tree-F.Mask (map meaning_of operands))
+unfolding meaning_of
+meaning_of-Mask operands = ap meaning_of (sym (rolls-Mask operands)) ∙ fold-roll-Tree TreeMeaning meaning_level (Tree-F.Mask operands)
 
 -- ---- a section, one statement at a time
 
@@ -130,18 +135,21 @@ same_kind Ldd Scalar h = absurd (cc)
 same_kind Ldd Directional h = absurd (cc)
 same_kind Ldd Ldd h = refl
 
--- an operand of a kind that a row allows is a map: where the first operand of a row is one, the row asks maps alone
-pub map_row-same : (row : Row) (common kind : Kind) → allows common row.first kind ≡ true → map_row row ≡ row
-map_row-same row common kind h = by_first row.first h
+-- Where the first operand of a row is a map, and the second is no length, the row asks maps alone.
+pub map_row-same : (row : Row) (common kind : Kind) → allows common row.first kind ≡ true → is_length row.second ≡ false → map_row row ≡ row
+map_row-same row common kind h no_length = by_first row.first h
   where
-    by_first : (first : Ask) → allows common first kind ≡ true → cond (is_file first) (behind_file row) row ≡ row
-    by_first (ask.Only asked) h = refl
-    by_first (ask.One kinds) h = refl
-    by_first (ask.Alike kinds) h = refl
+    by_second : cond (is_length row.second) (before_length row) row ≡ row
+    by_second = ap (λ b. cond b (before_length row) row) no_length
+
+    by_first : (first : Ask) → allows common first kind ≡ true → cond (is_file first) (behind_file row) (cond (is_length row.second) (before_length row) row) ≡ row
+    by_first (ask.Only asked) h = by_second
+    by_first (ask.One kinds) h = by_second
+    by_first (ask.Alike kinds) h = by_second
     by_first (ask.Table asked) h = absurd (cc)
     by_first (ask.Series asked) h = absurd (cc)
-    by_first ask.Stack h = refl
-    by_first ask.Length h = refl
+    by_first ask.Stack h = absurd (cc)
+    by_first ask.Length h = absurd (cc)
 
 -- ---- lists in two parts
 

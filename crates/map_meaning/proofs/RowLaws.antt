@@ -1,5 +1,5 @@
 -- The rows of the table of operations.
-use Rattle.std.proofs.Common.{◌≡◌, List, [], ◌∷◌, refl, sym, ap, ◌∙◌}
+use Rattle.std.proofs.Common.{◌≡◌, true, List, [], ◌∷◌, refl, sym, ap, ◌∙◌}
 use Rattle.std.specs.Prelude.{All}
 use Rattle.std.proofs.lemmas.List.Elements.{All-cons, All-nil}
 use Rattle.map_meaning.specs.declared.op.Op.{Op}
@@ -9,54 +9,87 @@ use Rattle.map_meaning.specs.declared.row.Meant.TheVariants as meant
 use Rattle.map_meaning.specs.declared.row.Row.{Row}
 use Rattle.map_meaning.specs.declared.table.TheConstants.{OPERATIONS}
 use Rattle.map_meaning.specs.Laws.{IsItsRow}
-use Rattle.map_meaning.specs.Table.{row_of, table_rows}
+use Rattle.drain_meaning.specs.declared.op.FlowOp.TheVariants as flow
+use Rattle.drain_meaning.specs.declared.op.NearOp.TheVariants as near
+use Rattle.map_meaning.specs.Table.{has_row, row_of, table_rows}
 
 -- each row means its operation
-pub its_meaning : (o : Op) → (row_of o).meant ≡ meant.Op o
+pub its_meaning : (o : Op) → has_row o ≡ true → (row_of o).meant ≡ meant.Op o
 unfolding row_of table_rows
-its_meaning op.CopyOf = refl
-its_meaning op.Add = refl
-its_meaning op.Sub = refl
-its_meaning op.Mul = refl
-its_meaning op.Div = refl
-its_meaning op.IntDiv = refl
-its_meaning op.IntMod = refl
-its_meaning op.Neg = refl
-its_meaning op.Abs = refl
-its_meaning op.RoundDown = refl
-its_meaning op.RoundUp = refl
-its_meaning op.RoundOff = refl
-its_meaning op.Min = refl
-its_meaning op.Max = refl
-its_meaning op.Equal = refl
-its_meaning op.NotEqual = refl
-its_meaning op.Less = refl
-its_meaning op.LessEqual = refl
-its_meaning op.Greater = refl
-its_meaning op.GreaterEqual = refl
-its_meaning op.And = refl
-its_meaning op.Or = refl
-its_meaning op.Xor = refl
-its_meaning op.Not = refl
-its_meaning op.IfThen = refl
-its_meaning op.IfElse = refl
-its_meaning op.Cover = refl
-its_meaning op.Defined = refl
-its_meaning op.ToBoolean = refl
-its_meaning op.ToNominal = refl
-its_meaning op.ToOrdinal = refl
-its_meaning op.ToScalar = refl
-its_meaning op.ToDirectional = refl
-its_meaning op.LookupBoolean = refl
-its_meaning op.LookupNominal = refl
-its_meaning op.LookupOrdinal = refl
-its_meaning op.LookupScalar = refl
-its_meaning op.LookupDirectional = refl
-its_meaning op.TimeInputBoolean = refl
-its_meaning op.TimeInputNominal = refl
-its_meaning op.TimeInputOrdinal = refl
-its_meaning op.TimeInputScalar = refl
-its_meaning op.TimeInputDirectional = refl
+its_meaning op.CopyOf h = refl
+its_meaning op.Add h = refl
+its_meaning op.Sub h = refl
+its_meaning op.Mul h = refl
+its_meaning op.Div h = refl
+its_meaning op.IntDiv h = refl
+its_meaning op.IntMod h = refl
+its_meaning op.Neg h = refl
+its_meaning op.Abs h = refl
+its_meaning op.RoundDown h = refl
+its_meaning op.RoundUp h = refl
+its_meaning op.RoundOff h = refl
+its_meaning op.Min h = refl
+its_meaning op.Max h = refl
+its_meaning op.Equal h = refl
+its_meaning op.NotEqual h = refl
+its_meaning op.Less h = refl
+its_meaning op.LessEqual h = refl
+its_meaning op.Greater h = refl
+its_meaning op.GreaterEqual h = refl
+its_meaning op.And h = refl
+its_meaning op.Or h = refl
+its_meaning op.Xor h = refl
+its_meaning op.Not h = refl
+its_meaning op.IfThen h = refl
+its_meaning op.IfElse h = refl
+its_meaning op.Cover h = refl
+its_meaning op.Defined h = refl
+its_meaning op.ToBoolean h = refl
+its_meaning op.ToNominal h = refl
+its_meaning op.ToOrdinal h = refl
+its_meaning op.ToScalar h = refl
+its_meaning op.ToDirectional h = refl
+its_meaning op.LookupBoolean h = refl
+its_meaning op.LookupNominal h = refl
+its_meaning op.LookupOrdinal h = refl
+its_meaning op.LookupScalar h = refl
+its_meaning op.LookupDirectional h = refl
+its_meaning op.TimeInputBoolean h = refl
+its_meaning op.TimeInputNominal h = refl
+its_meaning op.TimeInputOrdinal h = refl
+its_meaning op.TimeInputScalar h = refl
+its_meaning op.TimeInputDirectional h = refl
+its_meaning op.WindowTotal h = refl
+its_meaning op.WindowAverage h = refl
+its_meaning op.WindowMinimum h = refl
+its_meaning op.WindowMaximum h = refl
+its_meaning op.WindowDiversity h = refl
+its_meaning op.WindowMajority h = refl
+its_meaning op.AreaTotal h = refl
+its_meaning op.AreaAverage h = refl
+its_meaning op.AreaMinimum h = refl
+its_meaning op.AreaMaximum h = refl
+its_meaning op.AreaDiversity h = refl
+its_meaning op.AreaMajority h = refl
+its_meaning op.AreaArea h = refl
+its_meaning op.MapTotal h = refl
+its_meaning op.MapMinimum h = refl
+its_meaning op.MapMaximum h = refl
+its_meaning (op.Near near.Upstream) h = refl
+its_meaning (op.Near near.Downstream) h = refl
+its_meaning (op.Flow flow.Accuflux) h = refl
+its_meaning (op.Flow flow.ThresholdFlux) h = refl
+its_meaning (op.Flow flow.ThresholdState) h = refl
+its_meaning (op.Flow flow.Catchment) h = refl
+its_meaning (op.Flow flow.CapacityFlux) h = absurd (cc)
+its_meaning (op.Flow flow.CapacityState) h = absurd (cc)
+its_meaning (op.Flow flow.TriggerFlux) h = absurd (cc)
+its_meaning (op.Flow flow.TriggerState) h = absurd (cc)
+its_meaning (op.Flow flow.FractionFlux) h = absurd (cc)
+its_meaning (op.Flow flow.FractionState) h = absurd (cc)
+its_meaning (op.Flow flow.Subcatchment) h = absurd (cc)
+its_meaning (op.Flow flow.PathOf) h = absurd (cc)
+its_meaning (op.Flow flow.StreamOrder) h = absurd (cc)
 
 -- two operations that a row means are one
 one_operation : (x o : Op) → meant.Op x ≡ meant.Op o → row_of o ≡ row_of x
@@ -70,8 +103,8 @@ built x row is means o h = one_operation x o (sym means ∙ h) ∙ is
 no_operation : (row : Row) (m : Meant) → row.meant ≡ m → ((o : Op) → m ≡ meant.Op o → ⊥) → IsItsRow row
 no_operation row m means not o h = absurd (not o (sym means ∙ h))
 
-not_unbuilt : (o : Op) → meant.Unbuilt ≡ meant.Op o → ⊥
-not_unbuilt o e = cc
+not_mask : (o : Op) → meant.Mask ≡ meant.Op o → ⊥
+not_mask o e = cc
 
 not_step : (o : Op) → meant.Step ≡ meant.Op o → ⊥
 not_step o e = cc
@@ -81,9 +114,6 @@ not_stack o e = cc
 
 not_sample : (o : Op) → meant.Sample ≡ meant.Op o → ⊥
 not_sample o e = cc
-
-unbuilt : (row : Row) → row.meant ≡ meant.Unbuilt → IsItsRow row
-unbuilt row means = no_operation row meant.Unbuilt means not_unbuilt
 
 -- a fact of each row of a list, one by one
 abbrev Each : (Row → Type 0) → List Row → Type 0
@@ -148,28 +178,28 @@ each_its_row = from_each IsItsRow OPERATIONS (
     no_operation _ meant.Stack refl not_stack &
     no_operation _ meant.Step refl not_step &
     no_operation _ meant.Sample refl not_sample &
-    unbuilt _ refl &
-    unbuilt _ refl &
-    unbuilt _ refl &
-    unbuilt _ refl &
-    unbuilt _ refl &
-    unbuilt _ refl &
-    unbuilt _ refl &
-    unbuilt _ refl &
-    unbuilt _ refl &
-    unbuilt _ refl &
-    unbuilt _ refl &
-    unbuilt _ refl &
-    unbuilt _ refl &
-    unbuilt _ refl &
-    unbuilt _ refl &
-    unbuilt _ refl &
-    unbuilt _ refl &
-    unbuilt _ refl &
-    unbuilt _ refl &
-    unbuilt _ refl &
-    unbuilt _ refl &
-    unbuilt _ refl &
-    unbuilt _ refl &
+    built op.WindowTotal _ refl refl &
+    built op.WindowAverage _ refl refl &
+    built op.WindowMinimum _ refl refl &
+    built op.WindowMaximum _ refl refl &
+    built op.WindowDiversity _ refl refl &
+    built op.WindowMajority _ refl refl &
+    built op.AreaTotal _ refl refl &
+    built op.AreaAverage _ refl refl &
+    built op.AreaMinimum _ refl refl &
+    built op.AreaMaximum _ refl refl &
+    built op.AreaDiversity _ refl refl &
+    built op.AreaMajority _ refl refl &
+    built op.AreaArea _ refl refl &
+    built op.MapTotal _ refl refl &
+    built op.MapMinimum _ refl refl &
+    built op.MapMaximum _ refl refl &
+    built (op.Near near.Upstream) _ refl refl &
+    built (op.Near near.Downstream) _ refl refl &
+    built (op.Flow flow.Accuflux) _ refl refl &
+    built (op.Flow flow.ThresholdFlux) _ refl refl &
+    built (op.Flow flow.ThresholdState) _ refl refl &
+    built (op.Flow flow.Catchment) _ refl refl &
+    no_operation _ meant.Mask refl not_mask &
     tt
     )

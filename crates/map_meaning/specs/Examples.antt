@@ -3,7 +3,7 @@ use Rattle.std.specs.Prelude.{◌≡◌, ℕ, ◌*◌, ◌==◌, Bool, true, fal
 use Rattle.std.specs.Prelude.{Option, Some, None, Result, Ok, Err}
 use Rattle.std.specs.List.{filter}
 use Rattle.cell_values.specs.declared.kind.Kind.{Kind}
-use Rattle.cell_values.specs.declared.kind.Kind.TheVariants.{Boolean, Nominal, Ordinal, Scalar}
+use Rattle.cell_values.specs.declared.kind.Kind.TheVariants.{Boolean, Nominal, Ordinal, Scalar, Ldd}
 use Rattle.cell_values.specs.declared.cell.Cell.{Cell}
 use Rattle.cell_values.specs.declared.cell.Cell.TheVariants.{Mv, Val}
 use Rattle.lookup_table.specs.declared.key.KeyRange.{KeyRange}
@@ -13,6 +13,7 @@ use Rattle.time_series.specs.Form.{SeriesValue}
 use Rattle.text_base.specs.Results.{◌>>=◌}
 use Rattle.tile_map.specs.Cuts.{cell_at}
 use Rattle.tile_map.specs.Parts.{part_of}
+use Rattle.drain_meaning.specs.declared.op.FlowOp.TheVariants as flow
 use Rattle.map_meaning.specs.declared.op.Op.{Op}
 use Rattle.map_meaning.specs.declared.op.Op.TheVariants as op
 use Rattle.map_meaning.specs.declared.known.Known.{Known}
@@ -168,7 +169,9 @@ doubling = record {
   b = from.Input 0;
   c = from.Unused;
   d = from.Unused;
+  drain = 0;
   file = 0;
+  window = 0;
   statement = 1;
   number = 1;
   kept = true;
@@ -180,6 +183,7 @@ doubled = record {
   inputs = record { file = codes "a.asc"; role = Grid; kind = Scalar } ∷ [];
   initial = doubling ∷ [];
   dynamic = [];
+  drains = [];
   outputs = record { file = codes "C"; kind = InitialGrid; value = from.Initial 0; cell_kind = Scalar; statement = 1 } ∷ [];
   area = 0;
   steps = 0;
@@ -187,7 +191,17 @@ doubled = record {
 
 -- what is known of its grid
 abbrev pub over_grid : List Cell → Known
-over_grid cells = record { rows = 1; cols = 2; maps = cells ∷ []; tables = []; series = []; stacks = []; initial = []; last = [] }
+over_grid cells = record {
+  rows = 1;
+  cols = 2;
+  maps = cells ∷ [];
+  tables = [];
+  series = [];
+  drains = [];
+  stacks = [];
+  initial = [];
+  last = [];
+}
 
 -- the Over of an operation of a statement at a step, in the second column
 abbrev pub over_in_column_two : ℕ → ℕ → ℕ → OverAt
@@ -303,7 +317,9 @@ kept_operation o a b statement number = record {
   b = b;
   c = from.Unused;
   d = from.Unused;
+  drain = 0;
   file = 1;
+  window = 0;
   statement = statement;
   number = number;
   kept = true;
@@ -319,6 +335,7 @@ over_steps initial dynamic = record {
       ∷ [];
   initial = initial;
   dynamic = dynamic;
+  drains = [];
   outputs = [];
   area = 0;
   steps = 3;
@@ -344,6 +361,7 @@ over_cell first second third initial = record {
             ∷ record { step = 3; cells = third ∷ [] }
             ∷ [];
       } ∷ [];
+  drains = [];
   stacks = stack_grid 1 (whole_scalar 5) ∷ stack_grid 2 Mv ∷ stack_grid 3 (whole_scalar 7) ∷ [];
   initial = initial;
   last = [];
@@ -445,14 +463,17 @@ of_two_rows = record {
       record { step = 1; cells = whole_scalar 4 ∷ whole_scalar 8 ∷ [] } ∷ record { step = 3; cells = whole_scalar 2 ∷ Mv ∷ [] } ∷ [];
 }
 
+-- what a lookup on these kinds is told
+abbrev pub told_table : TableValue → List Kind → Setting
+told_table table kinds = record { kinds = kinds; rows = 0; cols = 0; step = 0; table = table; series = no_series; window = 0 }
+
 -- the cells that a lookup on these kinds gives at the places of some maps
 abbrev pub looked_up : Op → TableValue → List Kind → List (List Cell) → ℕ → List Cell
-looked_up o table kinds maps places =
-    (part_of (outcome_of o (record { kinds = kinds; step = 0; table = table; series = no_series }) (map cell_at maps)) places).cells
+looked_up o table kinds maps places = (part_of (outcome_of o (told_table table kinds) (map cell_at maps)) places).cells
 
 -- what an operation is told of the series at a step
 abbrev pub told_series : ℕ → Setting
-told_series step = record { kinds = Nominal ∷ []; step = step; table = no_table; series = of_two_rows }
+told_series step = record { kinds = Nominal ∷ []; rows = 0; cols = 0; step = step; table = no_table; series = of_two_rows; window = 0 }
 
 -- the cells that the series gives of these ids at a step
 abbrev pub cells_of_step : ℕ → List Cell → ℕ → List Cell
@@ -493,3 +514,11 @@ pub record KindExamples : Type 0 where
   pub no_key : HasKinds (map_row (row_of op.LookupScalar)) [] Scalar → ⊥
   -- ids are classes
   pub no_ids : HasKinds (map_row (row_of op.TimeInputScalar)) (Scalar ∷ []) Scalar → ⊥
+  -- the length of a window is no map
+  pub one_map : HasKinds (map_row (row_of op.WindowTotal)) (Scalar ∷ []) Scalar
+  -- areas are those of classes
+  pub no_area : HasKinds (row_of op.AreaTotal) (Scalar ∷ Scalar ∷ []) Scalar → ⊥
+  -- a catchment has the kind of its points
+  pub of_points : HasKinds (row_of (op.Flow flow.Catchment)) (Ldd ∷ Nominal ∷ []) Nominal
+  -- flows go along drain directions, and along nothing else
+  pub no_directions : HasKinds (row_of (op.Flow flow.Accuflux)) (Nominal ∷ Scalar ∷ []) Scalar → ⊥

@@ -1,6 +1,7 @@
 -- What holds of all operations, statements and programs.
-use Rattle.std.specs.Prelude.{◌≡◌, ◌≢◌, ◌<◌, ℕ, zero, suc, ◌+◌, ◌*◌, ℤ, pos, ◌+ℤ◌, ◌-ℤ◌, ◌*ℤ◌, ◌≤ℤ◌, ◌<ℤ◌, true, false, ◌⊎◌, ⊤}
+use Rattle.std.specs.Prelude.{◌≡◌, ◌≢◌, ◌<◌, ℕ, zero, suc, ◌+◌, ◌*◌, ℤ, pos, ◌+ℤ◌, ◌-ℤ◌, ◌*ℤ◌, ◌≤ℤ◌, ◌<ℤ◌, ◌≤◌, true, false, ◌⊎◌, ⊤}
 use Rattle.std.specs.Prelude.{List, [], ◌∷◌, ◌++◌, length, slice_get, All, AllPairs, Contains, Option, Some, Result, Ok, Err, IsOk, IfSome}
+use Rattle.text_base.specs.Limits.{most_cells}
 use Rattle.text_base.specs.Results.{◌>>=◌}
 use Rattle.cell_values.specs.declared.kind.Kind.{Kind}
 use Rattle.cell_values.specs.declared.cell.Cell.TheVariants.{Mv}
@@ -25,10 +26,10 @@ use Rattle.map_meaning.specs.Onward.{ComesBefore, Onward, onward}
 use Rattle.map_meaning.specs.Overs.{may_be_over}
 use Rattle.map_meaning.specs.Scenes.{Scene}
 use Rattle.map_meaning.specs.Programs.{IsWellFormed, StandsBefore, file_role}
-use Rattle.map_meaning.specs.Rules.{Setting, kind_at, operand_at, outcome_of}
+use Rattle.map_meaning.specs.Rules.{Setting, kind_at, operand_at, outcome_of, setting_places}
 use Rattle.map_meaning.specs.Sections.{After, after_statements}
 use Rattle.map_meaning.specs.Spans.{HasSeriesKind, HasTableKind, IsSpan, Knows, stage_of}
-use Rattle.map_meaning.specs.Table.{HasKinds, map_row, row_of, table_rows}
+use Rattle.map_meaning.specs.Table.{HasKinds, has_row, map_row, row_of, table_rows}
 use Rattle.map_meaning.specs.Whole.{whole_above, whole_below}
 
 -- ---- the table
@@ -37,9 +38,9 @@ use Rattle.map_meaning.specs.Whole.{whole_above, whole_below}
 abbrev pub IsItsRow : Row → Type 0
 IsItsRow row = (o : Op) → row.meant ≡ meant.Op o → row_of o ≡ row
 
--- each operation has a row that means it, and the table has no other
+-- each operation but a transport without a word has a row that means it, and the table has no other
 pub record HaveOneRow : Type 0 where
-  pub row : (o : Op) → (row_of o).meant ≡ meant.Op o
+  pub row : (o : Op) → has_row o ≡ true → (row_of o).meant ≡ meant.Op o
   pub only : All IsItsRow table_rows
 
 -- ---- cells
@@ -59,21 +60,26 @@ LiesIn kind (Err over) = ⊤
 abbrev pub HaveKindsAt : List Kind → List CellAt → ℕ → Type 0
 HaveKindsAt kinds operands place = (i : ℕ) → i < length kinds → IsCell (kind_at kinds i) (operand_at operands i place)
 
+-- the operands are maps within the limits: they have cells of their kinds at all places
+pub record AreMapsOfKinds (setting : Setting) (operands : List CellAt) : Type 0 where
+  pub few : setting_places setting ≤ most_cells
+  pub kinds : (place : ℕ) → place < setting_places setting → HaveKindsAt setting.kinds operands place
+
 -- where an operation's operands have cells of their kinds at all places of a map, and what it looks up is of its kind, its
 -- results are cells of its kind
 abbrev pub LieInTheirKind : Type 0
 LieInTheirKind =
-    (o : Op) (setting : Setting) (kind : Kind) (operands : List CellAt) (places place : ℕ) →
+    (o : Op) (setting : Setting) (kind : Kind) (operands : List CellAt) (place : ℕ) →
     HasKinds (map_row (row_of o)) setting.kinds kind → HoldsKind (file_role o (length setting.kinds)) setting kind →
-    ((other : ℕ) → other < places → HaveKindsAt setting.kinds operands other) → place < places →
+    AreMapsOfKinds setting operands → place < setting_places setting →
     LiesIn kind (outcome_of o setting operands place)
 
 -- where an operation's operands have cells of their kinds at all places of a map, no result but those of a few is out of range
 abbrev pub StayInRange : Type 0
 StayInRange =
-    (o : Op) (setting : Setting) (kind : Kind) (operands : List CellAt) (places place : ℕ) →
+    (o : Op) (setting : Setting) (kind : Kind) (operands : List CellAt) (place : ℕ) →
     may_be_over o ≡ false → HasKinds (map_row (row_of o)) setting.kinds kind →
-    ((other : ℕ) → other < places → HaveKindsAt setting.kinds operands other) → place < places →
+    AreMapsOfKinds setting operands → place < setting_places setting →
     IsOk (outcome_of o setting operands place)
 
 -- where one of its operands is missing, a result is missing, except where the policy on missing values says otherwise

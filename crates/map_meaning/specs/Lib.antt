@@ -15,4 +15,5 @@ pub mod Onward
 pub mod Spans
 pub mod Limits
 pub mod Examples
+pub mod PlaceExamples
 pub mod Laws

@@ -13,6 +13,10 @@ most_statements = 1000
 abbrev pub most_inputs : ℕ
 most_inputs = 1001
 
+-- how many drain maps a program may have: one for each input and each statement
+abbrev pub most_drains : ℕ
+most_drains = 2001
+
 -- the greatest number of the last step
 abbrev pub most_steps : ℕ
 most_steps = 100000

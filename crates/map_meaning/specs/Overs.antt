@@ -3,7 +3,9 @@ use Rattle.std.specs.Prelude.{Bool, true, false, ℕ, ◌+◌, ◌/◌, ◌%◌,
 use Rattle.tile_map.specs.declared.part.Part.{Part}
 use Rattle.map_meaning.specs.declared.known.OverAt.{OverAt}
 use Rattle.map_meaning.specs.declared.op.Op.{Op}
-use Rattle.map_meaning.specs.declared.op.Op.TheVariants.{Add, Sub, Mul, Div, IntDiv, ToNominal, ToOrdinal}
+use Rattle.map_meaning.specs.declared.op.Op.TheVariants.{Add, Sub, Mul, Div, IntDiv, ToNominal, ToOrdinal, WindowTotal}
+use Rattle.map_meaning.specs.declared.op.Op.TheVariants.{AreaTotal, MapTotal, Near, Flow}
+use Rattle.drain_meaning.specs.declared.op.NearOp.TheVariants.{Upstream}
 use Rattle.map_meaning.specs.Maps.{WholeMap}
 use Rattle.map_meaning.specs.Scenes.{Scene}
 
@@ -30,4 +32,9 @@ may_be_over Div = true
 may_be_over IntDiv = true
 may_be_over ToNominal = true
 may_be_over ToOrdinal = true
+may_be_over WindowTotal = true
+may_be_over AreaTotal = true
+may_be_over MapTotal = true
+may_be_over (Near Upstream) = true
+may_be_over (Flow o) = true
 may_be_over _ = false

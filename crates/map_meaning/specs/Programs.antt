@@ -1,5 +1,6 @@
 -- Well-formed programs.
-use Rattle.std.specs.Prelude.{◌≡◌, ◌≢◌, ◌<◌, ◌≤◌, ℕ, ◌+◌, ◌==◌, Bool, true, false, ◌||◌, IsTrue, ⊤, ◌⊎◌}
+use Rattle.std.specs.Prelude.{◌≡◌, ◌≢◌, ◌<◌, ◌≤◌, ℕ, ◌+◌, ◌==◌, max, nat_le, nat_lt}
+use Rattle.std.specs.Prelude.{Bool, true, false, ◌||◌, ◌&&◌, if◌then◌else◌, IsTrue, ⊤, ◌⊎◌}
 use Rattle.std.specs.Prelude.{List, [], ◌∷◌, length, slice_get, All, AllPairs, Option, Some, None, IfSome, option_map}
 use Rattle.std.specs.List.{filter, filter_map, list_all, list_any}
 use Rattle.text_base.specs.Words.{is_file_word}
@@ -9,7 +10,10 @@ use Rattle.cell_values.specs.Kinds.{IsCell}
 use Rattle.map_meaning.specs.declared.op.Op.{Op}
 use Rattle.map_meaning.specs.declared.op.Op.TheVariants as op
 use Rattle.map_meaning.specs.declared.program.Operand.{Operand}
-use Rattle.map_meaning.specs.declared.program.Operand.TheVariants.{Unused, Literal, Time, Input, Initial, Now, Last}
+use Rattle.map_meaning.specs.declared.program.DrainFrom.{DrainFrom}
+use Rattle.map_meaning.specs.declared.program.DrainFrom.TheVariants as drain
+use Rattle.map_meaning.specs.declared.program.DrainUse.{DrainUse}
+use Rattle.map_meaning.specs.declared.program.Operand.TheVariants.{Unused, Literal, Time, Input, Initial, Now, Last, Drain}
 use Rattle.map_meaning.specs.declared.program.Operand.TheVariants as from
 use Rattle.map_meaning.specs.declared.program.Operation.{Operation}
 use Rattle.map_meaning.specs.declared.program.OutputKind.{OutputKind}
@@ -18,8 +22,8 @@ use Rattle.map_meaning.specs.declared.program.Role.{Role}
 use Rattle.map_meaning.specs.declared.program.Role.TheVariants.{Grid, Stack, Table, Series}
 use Rattle.map_meaning.specs.declared.program.OutputUse.{OutputUse}
 use Rattle.map_meaning.specs.declared.program.Program.{Program}
-use Rattle.map_meaning.specs.Limits.{most_operations, most_statements, most_inputs, most_steps, most_stacks}
-use Rattle.map_meaning.specs.Table.{HasKinds, map_row, row_of}
+use Rattle.map_meaning.specs.Limits.{most_drains, most_operations, most_statements, most_inputs, most_steps, most_stacks}
+use Rattle.map_meaning.specs.Table.{HasKinds, goes_along_drains, is_focal, is_window_length, map_row, row_of}
 
 -- ---- roles
 
@@ -65,6 +69,10 @@ input_kind program n = option_map (λ input. input.kind) (slice_get program.inpu
 abbrev pub operation_kind : List Operation → ℕ → Option Kind
 operation_kind operations n = option_map (λ o. o.kind) (slice_get operations n)
 
+-- the kind of the drain map with this number, if it is there
+abbrev pub drain_kind : Program → ℕ → Option Kind
+drain_kind program n = option_map (λ d. kinds.Ldd) (slice_get program.drains n)
+
 -- the kind of an operand, where it is one
 abbrev pub operand_kind : Program → Operand → Option Kind
 operand_kind program Unused = None
@@ -75,14 +83,19 @@ operand_kind program (from.Stack n) = input_kind program n
 operand_kind program (Initial n) = operation_kind program.initial n
 operand_kind program (Now n) = operation_kind program.dynamic n
 operand_kind program (Last dynamic initial) = operation_kind program.dynamic dynamic
+operand_kind program (Drain n) = drain_kind program n
 
--- the operands of an operation
+-- the operands of an operation, but for the drain map that it goes along
 abbrev pub operands_of : Operation → List Operand
 operands_of o = o.a ∷ o.b ∷ o.c ∷ o.d ∷ []
 
+-- all operands of an operation: the drain map that it goes along stands first
+abbrev pub all_operands : Operation → List Operand
+all_operands o = if goes_along_drains o.op then Drain o.drain ∷ operands_of o else operands_of o
+
 -- the kinds of an operation's operands
 abbrev pub kinds_of : Program → Operation → List Kind
-kinds_of program o = filter_map (operand_kind program) (operands_of o)
+kinds_of program o = filter_map (operand_kind program) (all_operands o)
 
 -- ---- what an operation reads
 
@@ -97,12 +110,18 @@ are_used_first [] = true
 are_used_first (Unused ∷ more) = list_all is_unused more
 are_used_first (operand ∷ more) = are_used_first more
 
+-- the drain map with this number is computed once so many operations of `initial` are
+pub record IsDueBy (program : Program) (count n : ℕ) : Type 0 where
+  pub within : n < length program.drains
+  pub after : IfSome (slice_get program.drains n) (λ d. d.after ≤ count)
+
 -- the operand may be one of the operation of `initial` with this number
 abbrev pub IsBelow : Program → ℕ → Operand → Type 0
 IsBelow program n Unused = ⊤
 IsBelow program n (Literal kind cell) = IsCell kind cell
 IsBelow program n (Input k) = IsInput program Grid k
 IsBelow program n (Initial k) = k < n
+IsBelow program n (Drain k) = IsDueBy program n k
 IsBelow program n _ = ⊥
 
 -- what a name had before: an operation of `dynamic` and one of `initial`, of one kind
@@ -121,6 +140,7 @@ IsBelowNow program n (from.Stack k) = IsInput program Stack k
 IsBelowNow program n (Initial k) = k < length program.initial
 IsBelowNow program n (Now k) = k < n
 IsBelowNow program n (Last dynamic initial) = AreOneName program dynamic initial
+IsBelowNow program n (Drain k) = k < length program.drains
 
 -- the role of the input that an operation on so many operands looks its results up in, if it does
 abbrev pub file_role : Op → ℕ → Option Role
@@ -147,7 +167,7 @@ IsFileOf program None kind n = ⊤
 IsFileOf program (Some asked) kind n = IsFile program asked kind n
 
 -- An operation whose operands are such: those that it has come first, its operands and its map have kinds of its row of the
--- table, its file is one for it, and it is kept where it is to be.
+-- table, its drain map, its file and its window are such for it, and it is kept where it is to be.
 pub record IsOperationOf (program : Program) (IsRead : Operand → Type 0) (keep : Bool) (o : Operation) : Type 0 where
   pub a : IsRead o.a
   pub b : IsRead o.b
@@ -155,6 +175,8 @@ pub record IsOperationOf (program : Program) (IsRead : Operand → Type 0) (keep
   pub d : IsRead o.d
   pub used : are_used_first (operands_of o) ≡ true
   pub kinds : HasKinds (map_row (row_of o.op)) (kinds_of program o) o.kind
+  pub drain : goes_along_drains o.op ≡ true → IsRead (Drain o.drain)
+  pub window : is_focal o.op ≡ true → is_window_length o.window ≡ true
   pub file : IsFileOf program (file_role o.op (length (kinds_of program o))) o.kind o.file
   pub kept : o.kept ≡ keep
 
@@ -188,9 +210,35 @@ is_output program test = list_any (λ output. test output.value) program.outputs
 abbrev pub is_written : Program → ℕ → Bool
 is_written program n = is_output program (is_initial n)
 
--- An operation of `initial` is kept where a step reads its map, or an output writes it.
+-- a drain map is masked by an operand that passes a test
+abbrev pub is_mask_by : (Operand → Bool) → DrainFrom → Bool
+is_mask_by test (drain.Mask of by) = test by
+is_mask_by test _ = false
+
+-- the map of the operation of `initial` with this number masks a drain map
+abbrev pub is_mask : Program → ℕ → Bool
+is_mask program n = list_any (λ d. is_mask_by (is_initial n) d.from) program.drains
+
+-- Where the stage begins that the operation of `initial` with this number stands in: behind the last drain map that is computed
+-- before it.
+abbrev pub stage_begin : List DrainUse → ℕ → ℕ
+stage_begin [] n = 0
+stage_begin (d ∷ ds) n = if nat_le d.after n then max d.after (stage_begin ds n) else stage_begin ds n
+
+-- one of these operations of `initial`, whose numbers count from k, reads the map of the operation n of an earlier stage
+abbrev pub is_read_behind : List DrainUse → ℕ → ℕ → List Operation → Bool
+is_read_behind drains n k [] = false
+is_read_behind drains n k (o ∷ more) =
+    (list_any (is_initial n) (operands_of o) && nat_lt n (stage_begin drains k)) || is_read_behind drains n (k + 1) more
+
+-- an operation of a later stage reads the map of the operation of `initial` with this number
+abbrev pub is_read_later : Program → ℕ → Bool
+is_read_later program n = is_read_behind program.drains n 0 program.initial
+
+-- An operation of `initial` is kept where a step, a later stage or a mask reads its map, or an output writes it.
 abbrev pub is_kept_map : Program → ℕ → Bool
-is_kept_map program n = is_read_in_steps program (is_initial n) || is_written program n
+is_kept_map program n =
+    is_read_in_steps program (is_initial n) || is_written program n || is_mask program n || is_read_later program n
 
 -- a step reads the map that the operation of `dynamic` with this number had at the step before
 abbrev pub is_carried : Program → ℕ → Bool
@@ -225,6 +273,25 @@ AreStepOperations program n (o ∷ more) = IsStepOperation program n o × AreSte
 abbrev pub StandsBefore : Operation → Operation → Type 0
 StandsBefore o p = (o.statement < p.statement) ⊎ ((o.statement ≡ p.statement) × (o.number < p.number))
 
+-- ---- drain maps
+
+-- The drain map with the number n, which is computed behind so many operations of `initial`, comes from an input of its kind,
+-- which was read before any operation, or from a drain map before it, as it is or masked by a boolean that is known by then.
+abbrev pub IsFrom : Program → ℕ → ℕ → DrainFrom → Type 0
+IsFrom program n after (drain.Input k) = IsInput program Grid k × (input_kind program k ≡ Some kinds.Ldd) × (after ≡ 0)
+IsFrom program n after (drain.Same k) = k < n
+IsFrom program n after (drain.Mask of by) = (of < n) × IsBelow program after by × (operand_kind program by ≡ Some kinds.Boolean)
+
+-- a drain map of a program, with the number n
+pub record IsDrainUse (program : Program) (n : ℕ) (d : DrainUse) : Type 0 where
+  pub from : IsFrom program n d.after d.from
+  pub within : d.after ≤ length program.initial
+
+-- drain maps whose numbers count from n
+abbrev pub AreDrainUses : Program → ℕ → List DrainUse → Type 0
+AreDrainUses program n [] = ⊤
+AreDrainUses program n (d ∷ ds) = IsDrainUse program n d × AreDrainUses program (n + 1) ds
+
 -- ---- outputs
 
 -- ids are booleans or classes
@@ -239,10 +306,16 @@ pub record IsIds (program : Program) (n : ℕ) : Type 0 where
   pub input : IsInput program Grid n
   pub kind : IfSome (input_kind program n) (λ kind. is_id_kind kind ≡ true)
 
--- The operand is what such an output writes: the map of an operation of `initial`, or that of an operation of `dynamic`; a
--- time series has also what a step reads.
+-- the operand is the map of an operation of `initial`, or a drain map
+abbrev pub IsInitialValue : Program → Operand → Type 0
+IsInitialValue program (Initial n) = n < length program.initial
+IsInitialValue program (Drain n) = n < length program.drains
+IsInitialValue program _ = ⊥
+
+-- The operand is what such an output writes: the map of an operation of `initial` or a drain map, or the map of an operation of
+-- `dynamic`; a time series has also what a step reads.
 abbrev pub IsOutputValue : Program → OutputKind → Operand → Type 0
-IsOutputValue program InitialGrid value = (n : ℕ) × (value ≡ Initial n) × (n < length program.initial)
+IsOutputValue program InitialGrid value = IsInitialValue program value
 IsOutputValue program StackGrid value = (n : ℕ) × (value ≡ Now n) × (n < length program.dynamic)
 IsOutputValue program (Sample ids) value = IsIds program ids × IsBelowNow program (length program.dynamic) value
 
@@ -272,6 +345,8 @@ pub record IsWellFormed (program : Program) : Type 0 where
   pub area : IsInput program Grid program.area
   pub operations : AreOperations program 0 program.initial
   pub step_operations : AreStepOperations program 0 program.dynamic
+  pub drains : AreDrainUses program 0 program.drains
+  pub drain_order : AllPairs (λ x y. x.after ≤ y.after) program.drains
   pub order : AllPairs StandsBefore program.initial
   pub step_order : AllPairs StandsBefore program.dynamic
   pub outputs : All (IsOutput program) program.outputs
@@ -281,6 +356,7 @@ pub record IsWellFormed (program : Program) : Type 0 where
   pub few_step_operations : length program.dynamic ≤ most_operations
   pub few_statements : All (λ o. o.statement ≤ most_statements) program.initial
   pub few_step_statements : All (λ o. o.statement ≤ most_statements) program.dynamic
+  pub few_drains : length program.drains ≤ most_drains
   pub few_outputs : length program.outputs ≤ most_statements
   pub few_stacks : length (filter (λ input. is_stack_role input.role) program.inputs) ≤ most_stacks
   pub few_stack_outputs : length (filter (λ output. is_stack_grid output.kind) program.outputs) ≤ most_stacks

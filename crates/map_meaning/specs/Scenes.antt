@@ -4,6 +4,9 @@ use Rattle.cell_values.specs.declared.kind.Kind.{Kind}
 use Rattle.lookup_table.specs.Form.{TableValue}
 use Rattle.time_series.specs.Form.{SeriesValue}
 use Rattle.map_meaning.specs.declared.known.StepMap.{StepMap}
+use Rattle.tile_map.specs.Cuts.{cell_at}
+use Rattle.drain_meaning.specs.Drains.{DrainMap}
+use Rattle.drain_meaning.specs.Masks.{lddmask_of}
 use Rattle.map_meaning.specs.Maps.{WholeMap}
 use Rattle.map_meaning.specs.Rules.{Setting, no_table, no_series}
 
@@ -31,15 +34,27 @@ map_at_step (m ∷ more) step n = if (m.step == step) && (m.operation == n) then
 abbrev pub stack_map : Scene → ℕ → WholeMap
 stack_map scene n = map_at_step scene.stacks scene.step n
 
--- what an operation on operands of these kinds is told there that looks its results up in the input with this number
-abbrev pub setting_at : Scene → ℕ → List Kind → Setting
-setting_at scene file kinds = record {
+-- What an operation on operands of these kinds is told there: it may look its results up in the input with this number, and
+-- its window may have this length.
+abbrev pub setting_at : Scene → ℕ → ℕ → List Kind → Setting
+setting_at scene file window kinds = record {
   kinds = kinds;
+  rows = scene.rows;
+  cols = scene.cols;
   step = scene.step;
   table = slice_index_or scene.tables file no_table;
   series = slice_index_or scene.series file no_series;
+  window = window;
 }
 
--- what another operation is told; the number of an input does not count there
+-- what another operation is told; neither number counts there
 abbrev pub setting_in : Scene → List Kind → Setting
-setting_in scene kinds = setting_at scene 0 kinds
+setting_in scene kinds = setting_at scene 0 0 kinds
+
+-- the drain map with these codes
+abbrev pub drain_in : Scene → WholeMap → DrainMap
+drain_in scene codes = record { rows = scene.rows; cols = scene.cols; codes = codes }
+
+-- the codes of the part of a drain map that a mask keeps
+abbrev pub masked_map : Scene → WholeMap → WholeMap → WholeMap
+masked_map scene codes mask = (lddmask_of (drain_in scene codes) (cell_at mask)).codes

@@ -1,6 +1,7 @@
 -- Spans of a program: what they read from outside themselves, and what they give.
-use Rattle.std.specs.Prelude.{◌≡◌, ◌<◌, ◌≤◌, ℕ, zero, suc, ◌+◌, ◌-◌, ◌*◌, ◌==◌, Bool, true, if◌then◌else◌, ⊤}
-use Rattle.std.specs.Prelude.{List, [], ◌∷◌, ◌++◌, length, slice_get, slice_range, All, AllPairs, Some, None, Result, Ok, Err}
+use Rattle.std.specs.Prelude.{◌≡◌, ◌<◌, ◌≤◌, ◌⊎◌, ℕ, zero, suc, ◌+◌, ◌-◌, ◌*◌, ◌==◌, ◌&&◌, Bool, true, false, if◌then◌else◌}
+use Rattle.std.specs.Prelude.{List, [], ◌∷◌, ◌++◌, length, map, slice_get, slice_range, nat_lt}
+use Rattle.std.specs.Prelude.{All, AllPairs, Option, Some, None, Result, Ok, Err}
 use Rattle.std.specs.List.{AllZip, filter}
 use Rattle.text_base.specs.Limits.{most_cells}
 use Rattle.cell_values.specs.declared.kind.Kind.{Kind}
@@ -14,13 +15,18 @@ use Rattle.map_meaning.specs.declared.known.StageEnd.{StageEnd}
 use Rattle.map_meaning.specs.declared.known.StepMap.{StepMap}
 use Rattle.map_meaning.specs.declared.known.Span.{Span}
 use Rattle.map_meaning.specs.declared.known.Span.TheVariants as span
+use Rattle.drain_meaning.specs.Drains.{DrainMap}
+use Rattle.drain_meaning.specs.Sound.{IsDrain}
+use Rattle.map_meaning.specs.declared.program.DrainFrom.{DrainFrom}
+use Rattle.map_meaning.specs.declared.program.DrainFrom.TheVariants as from
+use Rattle.map_meaning.specs.declared.program.DrainUse.{DrainUse}
 use Rattle.map_meaning.specs.declared.program.InputUse.{InputUse}
 use Rattle.map_meaning.specs.declared.program.Operation.{Operation}
 use Rattle.map_meaning.specs.declared.program.Program.{Program}
 use Rattle.map_meaning.specs.declared.program.Role.{Role}
 use Rattle.map_meaning.specs.declared.program.Role.TheVariants.{Stack, Table}
 use Rattle.map_meaning.specs.Maps.{WholeMap, IsMapOf, nth}
-use Rattle.map_meaning.specs.Programs.{is_carried, is_grid_role, is_series_role, is_table_role}
+use Rattle.map_meaning.specs.Programs.{is_carried, is_grid_role, is_series_role, is_table_role, stage_begin}
 use Rattle.map_meaning.specs.Rules.{no_series, no_table}
 use Rattle.map_meaning.specs.Scenes.{Scene, map_at_step}
 use Rattle.map_meaning.specs.Evaluation.{Done, section_maps, operation_values}
@@ -48,10 +54,32 @@ pub record AreSteps (program : Program) (first last block : ℕ) : Type 0 where
   pub there : last ≤ program.steps
   pub few : last < first + block
 
--- The span is one that a runner of this block may be asked for: the one stage of `initial`, or steps.
+-- operations of one stage of `initial`, from its begin on: no drain map is computed between them
+pub record IsInStage (program : Program) (first end : ℕ) : Type 0 where
+  pub begins : first ≡ stage_begin program.drains first
+  pub order : first ≤ end
+  pub there : end ≤ length program.initial
+  pub whole : All (λ d. (d.after ≤ first) ⊎ (end ≤ d.after)) program.drains
+
+-- The span is one that a runner of this block may be asked for: operations of one stage of `initial`, or steps.
 abbrev pub IsSpan : Program → Span → ℕ → Type 0
-IsSpan program (span.Initial first end) block = (first ≡ 0) × (end ≡ length program.initial)
+IsSpan program (span.Initial first end) block = IsInStage program first end
 IsSpan program (span.Steps first last) block = AreSteps program first last block
+
+-- the drain map is computed by a statement, and is no input
+abbrev pub is_computed : DrainFrom → Bool
+is_computed (from.Input n) = false
+is_computed _ = true
+
+-- the stages from the operation with this number on, where these numbers of operations stand before the drain maps
+abbrev pub stages_from : ℕ → List ℕ → ℕ → List Span
+stages_from first [] end = span.Initial first end ∷ []
+stages_from first (before ∷ more) end = span.Initial first before ∷ stages_from before more end
+
+-- The stages of `initial`, in their order: each statement of a drain map ends one, and the last one ends with the section.
+abbrev pub initial_stages : Program → List Span
+initial_stages program =
+    stages_from 0 (map (λ d. d.after) (filter (λ d. is_computed d.from) program.drains)) (length program.initial)
 
 -- the operations of a span, at each of its steps
 abbrev pub span_operations : Program → Span → List Operation
@@ -127,9 +155,27 @@ HasStacks places inputs first last stacks =
     (n step : ℕ) (input : InputUse) → slice_get inputs n ≡ Some input → input.role ≡ Stack →
     first ≤ step → step ≤ last → IsMapOf places input.kind (map_at_step stacks step n)
 
--- What steps read from outside themselves is known: the kept maps of `initial`, the grids of stacks, and behind step 1 the maps
--- of the step before that the next one reads.
+-- it is a sound drain map of this size
+abbrev pub IsDrainOf : ℕ → ℕ → Option DrainMap → Type 0
+IsDrainOf rows cols None = ⊥
+IsDrainOf rows cols (Some m) = IsDrain m × (m.rows ≡ rows) × (m.cols ≡ cols)
+
+-- the drain maps that are computed once so many operations of `initial` are done are known
+abbrev pub HasDrains : Program → ℕ → Known → Type 0
+HasDrains program count known =
+    (n : ℕ) (d : DrainUse) → slice_get program.drains n ≡ Some d → d.after ≤ count →
+    IsDrainOf known.rows known.cols (slice_get known.drains n)
+
+-- What a stage of `initial` reads of earlier ones is known: the maps that are kept of them, and the drain maps before it.
+pub record KnowsEarlier (program : Program) (first : ℕ) (known : Known) : Type 0 where
+  pub initial : HasMaps (known.rows * known.cols) program.initial (λ n o. o.kept && nat_lt n first) known.initial
+  pub order : AreAscending known.initial
+  pub drains : HasDrains program first known
+
+-- What steps read from outside themselves is known: the kept maps of `initial`, the drain maps, the grids of stacks, and behind
+-- step 1 the maps of the step before that the next one reads.
 pub record KnowsBefore (program : Program) (first last : ℕ) (known : Known) : Type 0 where
+  pub drains : HasDrains program (length program.initial) known
   pub initial : HasMaps (known.rows * known.cols) program.initial (λ n o. o.kept) known.initial
   pub order : AreAscending known.initial
   pub carried : 1 < first → HasMaps (known.rows * known.cols) program.dynamic (λ n o. is_carried program n) known.last
@@ -138,7 +184,7 @@ pub record KnowsBefore (program : Program) (first last : ℕ) (known : Known) : 
 
 -- what a span reads of operations outside itself, and of stacks, is known
 abbrev pub KnowsOutside : Program → Span → Known → Type 0
-KnowsOutside program (span.Initial first end) known = ⊤
+KnowsOutside program (span.Initial first end) known = KnowsEarlier program first known
 KnowsOutside program (span.Steps first last) known = KnowsBefore program first last known
 
 -- What the span reads from outside itself is known: a map of the size for each grid, with cells of its kind, each table and
@@ -152,14 +198,19 @@ pub record Knows (program : Program) (s : Span) (known : Known) : Type 0 where
   pub series : AreOfInputs is_series_role (λ input series. HasSeriesKind input.kind series) program.inputs known.series
   pub outside : KnowsOutside program s known
 
+-- the codes of the drain maps that are known
+abbrev pub known_codes : Known → List WholeMap
+known_codes known = map (λ m. m.codes) known.drains
+
 -- what is done before a span
 abbrev pub done_before : Program → Span → Known → Done
 done_before program (span.Initial first end) known =
-    record { initial = tabulate (kept_map known.initial) first; dynamic = []; last = [] }
+    record { initial = tabulate (kept_map known.initial) first; dynamic = []; last = []; drains = known_codes known }
 done_before program (span.Steps first last) known = record {
   initial = tabulate (kept_map known.initial) (length program.initial);
   dynamic = [];
   last = tabulate (kept_map known.last) (length program.dynamic);
+  drains = known_codes known;
 }
 
 -- ---- what a span gives
@@ -185,7 +236,7 @@ told_then program s step (Err at) later = told_of program s step (Err at)
 
 -- what is done before the next step
 abbrev pub done_next : Done → Done
-done_next done = record { initial = done.initial; dynamic = []; last = done.dynamic }
+done_next done = record { initial = done.initial; dynamic = []; last = done.dynamic; drains = done.drains }
 
 -- what is told of so many steps, from this one on
 abbrev pub told_steps : Program → Span → Known → Done → ℕ → ℕ → StageEnd

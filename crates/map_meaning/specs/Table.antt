@@ -1,5 +1,6 @@
 -- The table of operations: the row of an operation, and the kinds that it allows.
-use Rattle.std.specs.Prelude.{◌≡◌, ℕ, ◌-◌, ◌<◌, nat_le, nat_lt, ◌==◌, Bool, true, false, ◌&&◌, if◌then◌else◌, List, length, slice_index_or}
+use Rattle.std.specs.Prelude.{◌≡◌, ℕ, ◌-◌, ◌%◌, ◌<◌, nat_le, nat_lt, ◌==◌, Bool, true, false}
+use Rattle.std.specs.Prelude.{◌&&◌, if◌then◌else◌, List, length, slice_index_or}
 use Rattle.cell_values.specs.declared.kind.Kind.{Kind}
 use Rattle.cell_values.specs.declared.kind.Kind.TheVariants.{Boolean, Nominal, Ordinal, Scalar, Directional, Ldd}
 use Rattle.map_meaning.specs.declared.op.Op.{Op}
@@ -10,7 +11,10 @@ use Rattle.map_meaning.specs.declared.row.Ask.{Ask}
 use Rattle.map_meaning.specs.declared.row.Ask.TheVariants as ask
 use Rattle.map_meaning.specs.declared.row.Given.{Given}
 use Rattle.map_meaning.specs.declared.row.Given.TheVariants.{Always, Common, Same}
-use Rattle.map_meaning.specs.declared.table.TheConstants.{OPERATIONS, COPY, MANY_OPERANDS}
+use Rattle.drain_meaning.specs.declared.op.FlowOp.{FlowOp}
+use Rattle.drain_meaning.specs.declared.op.FlowOp.TheVariants as flow
+use Rattle.drain_meaning.specs.declared.op.NearOp.TheVariants as near
+use Rattle.map_meaning.specs.declared.table.TheConstants.{OPERATIONS, COPY, NO_ROW, MANY_OPERANDS}
 use Rattle.map_meaning.specs.Rules.{kind_at}
 
 -- the kinds are the same
@@ -85,6 +89,67 @@ row_of op.TimeInputNominal = line 38
 row_of op.TimeInputOrdinal = line 39
 row_of op.TimeInputScalar = line 40
 row_of op.TimeInputDirectional = line 41
+row_of op.WindowTotal = line 45
+row_of op.WindowAverage = line 46
+row_of op.WindowMinimum = line 47
+row_of op.WindowMaximum = line 48
+row_of op.WindowDiversity = line 49
+row_of op.WindowMajority = line 50
+row_of op.AreaTotal = line 51
+row_of op.AreaAverage = line 52
+row_of op.AreaMinimum = line 53
+row_of op.AreaMaximum = line 54
+row_of op.AreaDiversity = line 55
+row_of op.AreaMajority = line 56
+row_of op.AreaArea = line 57
+row_of op.MapTotal = line 58
+row_of op.MapMinimum = line 59
+row_of op.MapMaximum = line 60
+row_of (op.Near near.Upstream) = line 61
+row_of (op.Near near.Downstream) = line 62
+row_of (op.Flow flow.Accuflux) = line 63
+row_of (op.Flow flow.ThresholdFlux) = line 64
+row_of (op.Flow flow.ThresholdState) = line 65
+row_of (op.Flow flow.Catchment) = line 66
+row_of (op.Flow _) = NO_ROW
+
+-- the transport has a row of the table
+abbrev pub is_transport : FlowOp → Bool
+is_transport flow.Accuflux = true
+is_transport flow.ThresholdFlux = true
+is_transport flow.ThresholdState = true
+is_transport flow.Catchment = true
+is_transport _ = false
+
+-- the operation has a row of the table, or is the copy of an operand
+abbrev pub has_row : Op → Bool
+has_row (op.Flow o) = is_transport o
+has_row _ = true
+
+-- the operation looks at windows
+abbrev pub is_focal : Op → Bool
+is_focal op.WindowTotal = true
+is_focal op.WindowAverage = true
+is_focal op.WindowMinimum = true
+is_focal op.WindowMaximum = true
+is_focal op.WindowDiversity = true
+is_focal op.WindowMajority = true
+is_focal _ = false
+
+-- the operation goes along drain directions: its first operand is a drain map
+abbrev pub goes_along_drains : Op → Bool
+goes_along_drains (op.Near o) = true
+goes_along_drains (op.Flow o) = true
+goes_along_drains _ = false
+
+-- a window's length: odd, and from 1 to 31
+abbrev pub is_window_length : ℕ → Bool
+is_window_length length = (length % 2 == 1) && nat_le length 31
+
+-- the length of a window is asked, and no map
+abbrev pub is_length : Ask → Bool
+is_length ask.Length = true
+is_length _ = false
 
 -- the name of a table or of a series is asked, and no map
 abbrev pub is_file : Ask → Bool
@@ -106,9 +171,24 @@ behind_file row = record {
   stands = row.stands;
 }
 
--- what a row asks of the operands that are maps: those behind the name of a table or of a series
+-- a row without its second operand
+abbrev pub before_length : Row → Row
+before_length row = record {
+  word = row.word;
+  meant = row.meant;
+  first = row.first;
+  second = row.further;
+  further = row.further;
+  least = row.least - 1;
+  most = row.most - 1;
+  gives = row.gives;
+  stands = row.stands;
+}
+
+-- What a row asks of the operands that are maps: those behind the name of a table or of a series, or before the length of a
+-- window.
 abbrev pub map_row : Row → Row
-map_row row = if is_file row.first then behind_file row else row
+map_row row = if is_file row.first then behind_file row else if is_length row.second then before_length row else row
 
 -- what the operand at this place is asked
 abbrev pub ask_at : Row → ℕ → Ask

@@ -2,7 +2,7 @@
 use Rattle.std.specs.Prelude.{ℕ, ◌+◌, List, [], ◌∷◌, map, Result, Ok}
 use Rattle.text_base.specs.Results.{◌>>=◌}
 use Rattle.cell_values.specs.declared.kind.Kind.{Kind}
-use Rattle.cell_values.specs.declared.kind.Kind.TheVariants.{Scalar}
+use Rattle.cell_values.specs.declared.kind.Kind.TheVariants.{Scalar, Ldd}
 use Rattle.tile_map.specs.Cuts.{cell_at}
 use Rattle.tile_map.specs.Parts.{part_of}
 use Rattle.map_meaning.specs.declared.op.Op.{Op}
@@ -12,7 +12,7 @@ use Rattle.map_meaning.specs.declared.tree.Tree.TheFolds.{fold-Tree}
 use Rattle.map_meaning.specs.declared.tree.Tree.TheOpen.{Tree-F}
 use Rattle.map_meaning.specs.Maps.{WholeMap, everywhere, nth, step_cell}
 use Rattle.map_meaning.specs.Rules.{Setting, outcome_of}
-use Rattle.map_meaning.specs.Scenes.{Scene, place_count, setting_at, setting_in, stack_map}
+use Rattle.map_meaning.specs.Scenes.{Scene, masked_map, place_count, setting_at, setting_in, stack_map}
 use Rattle.map_meaning.specs.Overs.{whole_or_over}
 
 -- the map of each name
@@ -73,13 +73,19 @@ meaning_level (Tree-F.Call kind op operands) =
           values_from_left operands at before >>= λ maps.
           applied at op (map (λ m. m.kind) operands) maps (before + operations_in operands + 1);
     }
-meaning_level (Tree-F.LookUp kind op file operands) =
+meaning_level (Tree-F.CallWith kind op file window operands) =
     record {
       kind = kind;
       operations = operations_in operands + 1;
       value = λ at before.
           values_from_left operands at before >>= λ maps.
-          applied_in at op (setting_at at.scene file (map (λ m. m.kind) operands)) maps (before + operations_in operands + 1);
+          applied_in at op (setting_at at.scene file window (map (λ m. m.kind) operands)) maps (before + operations_in operands + 1);
+    }
+meaning_level (Tree-F.Mask operands) =
+    record {
+      kind = Ldd;
+      operations = operations_in operands;
+      value = λ at before. values_from_left operands at before >>= λ maps. Ok (masked_map at.scene (nth maps 0) (nth maps 1));
     }
 
 -- what an expression means

@@ -1,5 +1,5 @@
 use crate::map::Map;
-use crate::shared::{SharedSeries, SharedTable};
+use crate::shared::{SharedDrain, SharedSeries, SharedTable};
 use sqlite_items::Items;
 
 /// The operations that are evaluated together.
@@ -45,6 +45,8 @@ pub struct Known {
     pub tables: Items<SharedTable>,
     /// The inputs that are series, in the order of the inputs.
     pub series: Items<SharedSeries>,
+    /// The drain maps that are computed before the span, by their numbers from 0 on.
+    pub drains: Items<SharedDrain>,
     /// The grids of the inputs that are stacks, at the steps of the span; their operation is the number of the input.
     pub stacks: Items<StepMap>,
     /// The kept maps of the stages of `initial` before the span, by ascending numbers of operations.

@@ -1,6 +1,7 @@
 //! What holds of every model, in the subject's words.
 
 ghost use Rattle.map_meaning.specs.Examples.{CellExamples, FileExamples, KindExamples, ProgramExamples, SectionExamples, SpanExamples, StepExamples};
+ghost use Rattle.map_meaning.specs.PlaceExamples.{AlongExamples, MaskExamples, RegionExamples};
 ghost use Rattle.map_meaning.specs.Laws.{AreNearWhole, ChangeTheirTargets, GiveWholeMaps, HaveOneRow, LieInTheirKind, OperationsGoOn, SectionsGoOn, SpreadMissing, StayInRange, TellTheLeastOver};
 
 /// Worked examples come out as they were worked out by hand.
@@ -12,6 +13,9 @@ pub fn worked_examples_come_out()
     ensures files { FileExamples }
     ensures steps { StepExamples }
     ensures spans { SpanExamples }
+    ensures regions { RegionExamples }
+    ensures drains { AlongExamples }
+    ensures masks { MaskExamples }
 {}
 
 /// Each operation has one row of the table of operations.
@@ -19,18 +23,19 @@ pub fn operations_have_one_row()
     ensures { HaveOneRow }
 {}
 
-/// The result of an operation is a cell of its kind where its operands' cells are of theirs.
+/// The result of an operation is a cell of its kind where its operands are maps of theirs.
 pub fn results_lie_in_their_kind()
     ensures { LieInTheirKind }
 {}
 
-/// Sums, differences, products, quotients and conversions to classes can leave the range of their kind; no other
-/// operation does where its operands' cells are of their kinds.
+/// Sums, differences, products, quotients, totals, conversions to classes and what gathers along drain directions can
+/// leave the range of their kind; no other operation does where its operands are maps of their kinds.
 pub fn few_operations_leave_their_range()
     ensures { StayInRange }
 {}
 
-/// A missing operand gives a missing value, except in the choices and tests that look at what is missing.
+/// A missing operand gives a missing value, except in the choices and tests that look at what is missing, and in
+/// operations over windows, areas and whole maps and one step along drain directions, which pass over it.
 pub fn missing_operands_spread()
     ensures { SpreadMissing }
 {}
@@ -57,7 +62,7 @@ pub fn first_over_is_the_least_noted()
     ensures { TellTheLeastOver }
 {}
 
-/// Each map that a span gives has a cell for each place, of the kind of its operation.
+/// Each map that a stage of `initial`, or a step, gives has a cell for each place, of the kind of its operation.
 pub fn spans_give_whole_maps()
     ensures { GiveWholeMaps }
 {}

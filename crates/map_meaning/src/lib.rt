@@ -26,11 +26,13 @@ pub use laws::{
 };
 pub use map::Map;
 pub use op::Op;
-pub use program::{InputUse, Operand, Operation, OutputKind, OutputUse, Program, Role};
+pub use program::{
+    DrainFrom, DrainUse, InputUse, Operand, Operation, OutputKind, OutputUse, Program, Role,
+};
 pub use row::{Ask, Given, Kinds, Meant, Row, Stands};
 pub use runner::BlockRunner;
-pub use shared::{SharedSeries, SharedTable};
+pub use shared::{SharedDrain, SharedSeries, SharedTable};
 pub use stack::stack_file;
-pub use table::{COPY, MANY_OPERANDS, OPERATIONS, rows};
+pub use table::{COPY, MANY_OPERANDS, NO_ROW, OPERATIONS, rows};
 pub use tile_map::{Arg, Part};
 pub use tree::{Statement, Tree};

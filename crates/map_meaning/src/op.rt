@@ -1,3 +1,5 @@
+use drain_meaning::{FlowOp, NearOp};
+
 /// An operation over maps, in the order of the table of operations.
 #[derive(Clone, Copy, Debug, PartialEq, Eq)]
 pub enum Op {
@@ -87,4 +89,41 @@ pub enum Op {
     TimeInputScalar,
     /// `timeinputdirectional`.
     TimeInputDirectional,
+    /// `windowtotal`.
+    WindowTotal,
+    /// `windowaverage`.
+    WindowAverage,
+    /// `windowminimum`.
+    WindowMinimum,
+    /// `windowmaximum`.
+    WindowMaximum,
+    /// `windowdiversity`.
+    WindowDiversity,
+    /// `windowmajority`.
+    WindowMajority,
+    /// `areatotal`.
+    AreaTotal,
+    /// `areaaverage`.
+    AreaAverage,
+    /// `areaminimum`.
+    AreaMinimum,
+    /// `areamaximum`.
+    AreaMaximum,
+    /// `areadiversity`.
+    AreaDiversity,
+    /// `areamajority`.
+    AreaMajority,
+    /// `areaarea`.
+    AreaArea,
+    /// `maptotal`.
+    MapTotal,
+    /// `mapminimum`.
+    MapMinimum,
+    /// `mapmaximum`.
+    MapMaximum,
+    /// `upstream` or `downstream`.
+    Near(NearOp),
+    /// A transport along drain directions. The first four have words: `accuflux`, `accuthresholdflux`,
+    /// `accuthresholdstate` and `catchment`.
+    Flow(FlowOp),
 }

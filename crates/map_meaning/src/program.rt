@@ -26,6 +26,8 @@ pub enum Operand {
         /// The number of the operation of `initial` whose map it is at step 1.
         initial: u32,
     },
+    /// The drain map with this number.
+    Drain(u32),
 }
 
 /// One operation over whole maps. Its number is its place in the list of its section, counted from 0.
@@ -43,8 +45,12 @@ pub struct Operation {
     pub c: Operand,
     /// The fourth operand.
     pub d: Operand,
+    /// The number of the drain map that it goes along; it counts for operations along drain directions alone.
+    pub drain: u32,
     /// The number of the input that is its table or its series; it counts for lookups and series alone.
     pub file: u32,
+    /// The length of its window, in cells; it counts for operations over windows alone.
+    pub window: u32,
     /// The statement that it belongs to, counted from 1.
     pub statement: u32,
     /// Its number among the operations of that statement, counted from 1 in post-order.
@@ -78,6 +84,31 @@ pub struct InputUse {
     pub role: Role,
     /// The kind of its cells.
     pub kind: Kind,
+}
+
+/// Where a drain map comes from.
+#[derive(Clone, Copy, Debug, PartialEq, Eq)]
+pub enum DrainFrom {
+    /// It is the grid of the input with this number.
+    Input(u32),
+    /// It is the drain map with this number, under another name.
+    Same(u32),
+    /// It is the part of a drain map that a mask keeps.
+    Mask {
+        /// The number of the drain map.
+        of: u32,
+        /// The mask, a boolean.
+        by: Operand,
+    },
+}
+
+/// A drain map of a program. Its number is its place in the list of drain maps, counted from 0.
+#[derive(Clone, Copy, Debug, PartialEq, Eq)]
+pub struct DrainUse {
+    /// Where it comes from.
+    pub from: DrainFrom,
+    /// How many operations of `initial` stand before it; 0 for an input.
+    pub after: u32,
 }
 
 /// What an output is written as.
@@ -118,6 +149,9 @@ pub struct Program {
     pub initial: Items<Operation>,
     /// The operations of the section `dynamic`, in the order of their evaluation at each step.
     pub dynamic: Items<Operation>,
+    /// The drain maps: those that are inputs, in the order of the inputs, and then those of statements, in the order of the
+    /// statements.
+    pub drains: Items<DrainUse>,
     /// The outputs, in the order of their statements.
     pub outputs: Items<OutputUse>,
     /// The number of the input that is the area map.

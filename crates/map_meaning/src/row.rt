@@ -72,8 +72,8 @@ pub enum Meant {
     Stack,
     /// A time series that is written.
     Sample,
-    /// Something of the language that programs do not have yet.
-    Unbuilt,
+    /// The part of a drain map that a mask keeps.
+    Mask,
 }
 
 /// One line of the table of operations.

@@ -1,7 +1,8 @@
-//! Tables and series that several may hold.
+//! Tables, series and drain maps that several may hold.
 
 ghost use Rattle.std.specs.Prelude.{◌≡◌, IfOk};
 
+use drain_meaning::Drain;
 use lookup_table::Table;
 use std::alloc::{AllocError, Global};
 use std::marker::Model;
@@ -84,6 +85,47 @@ impl SharedSeries {
 
     /// The series.
     pub fn series(&self) -> &Series
+        ensures { result.now ≡ self.now }
+    {
+        &self.shared
+    }
+}
+
+/// A sound drain map that several may hold. Contracts see the drain map.
+#[derive(Drop)]
+pub struct SharedDrain {
+    shared: Arc<Drain>,
+}
+
+impl Model for SharedDrain {
+    ghost use Rattle.drain_meaning.specs.Drains.{DrainMap};
+
+    ghost Value = { DrainMap };
+
+    ghost view = { λ d. d.shared.value };
+}
+
+impl SharedDrain {
+    /// This drain map.
+    pub fn new(alloc: Global, drain: Drain) -> Result<SharedDrain, AllocError>
+        ensures { IfOk result (λ shared. shared ≡ drain) }
+    {
+        Ok(SharedDrain {
+            shared: Arc::new(alloc, drain)?,
+        })
+    }
+
+    /// The same drain map, held once more; nothing is copied.
+    pub fn share(&self) -> Result<SharedDrain, AllocError>
+        ensures { IfOk result (λ shared. shared ≡ self.now) }
+    {
+        Ok(SharedDrain {
+            shared: Arc::try_clone(&self.shared)?,
+        })
+    }
+
+    /// The drain map.
+    pub fn drain(&self) -> &Drain
         ensures { result.now ≡ self.now }
     {
         &self.shared

@@ -4,6 +4,7 @@ ghost use Rattle.map_meaning.specs.Table.{table_rows};
 use crate::op::Op;
 use crate::row::{Ask, Given, Kinds, Meant, Row, Stands};
 use cell_values::Kind;
+use drain_meaning::{FlowOp, NearOp};
 
 /// Kinds with an order.
 const ORDERED: Kinds = Kinds {
@@ -94,6 +95,19 @@ pub const COPY: Row = Row {
     further: Ask::One(MAPS),
     least: 1,
     most: 1,
+    gives: Given::Same(0),
+    stands: Stands::Anywhere,
+};
+
+/// The row of a transport that has no word yet: it takes no number of operands.
+pub const NO_ROW: Row = Row {
+    word: *b"                    ",
+    meant: Meant::Op(Op::CopyOf),
+    first: Ask::One(MAPS),
+    second: Ask::One(MAPS),
+    further: Ask::One(MAPS),
+    least: 1,
+    most: 0,
     gives: Given::Same(0),
     stands: Stands::Anywhere,
 };
@@ -598,7 +612,7 @@ pub static OPERATIONS: [Row; 68] = [
     },
     Row {
         word: *b"windowtotal         ",
-        meant: Meant::Unbuilt,
+        meant: Meant::Op(Op::WindowTotal),
         first: SCALAR,
         second: Ask::Length,
         further: Ask::Length,
@@ -609,7 +623,7 @@ pub static OPERATIONS: [Row; 68] = [
     },
     Row {
         word: *b"windowaverage       ",
-        meant: Meant::Unbuilt,
+        meant: Meant::Op(Op::WindowAverage),
         first: SCALAR,
         second: Ask::Length,
         further: Ask::Length,
@@ -620,7 +634,7 @@ pub static OPERATIONS: [Row; 68] = [
     },
     Row {
         word: *b"windowminimum       ",
-        meant: Meant::Unbuilt,
+        meant: Meant::Op(Op::WindowMinimum),
         first: Ask::One(ORDERED),
         second: Ask::Length,
         further: Ask::Length,
@@ -631,7 +645,7 @@ pub static OPERATIONS: [Row; 68] = [
     },
     Row {
         word: *b"windowmaximum       ",
-        meant: Meant::Unbuilt,
+        meant: Meant::Op(Op::WindowMaximum),
         first: Ask::One(ORDERED),
         second: Ask::Length,
         further: Ask::Length,
@@ -642,7 +656,7 @@ pub static OPERATIONS: [Row; 68] = [
     },
     Row {
         word: *b"windowdiversity     ",
-        meant: Meant::Unbuilt,
+        meant: Meant::Op(Op::WindowDiversity),
         first: Ask::One(CLASSES),
         second: Ask::Length,
         further: Ask::Length,
@@ -653,7 +667,7 @@ pub static OPERATIONS: [Row; 68] = [
     },
     Row {
         word: *b"windowmajority      ",
-        meant: Meant::Unbuilt,
+        meant: Meant::Op(Op::WindowMajority),
         first: Ask::One(CLASSES),
         second: Ask::Length,
         further: Ask::Length,
@@ -664,7 +678,7 @@ pub static OPERATIONS: [Row; 68] = [
     },
     Row {
         word: *b"areatotal           ",
-        meant: Meant::Unbuilt,
+        meant: Meant::Op(Op::AreaTotal),
         first: SCALAR,
         second: Ask::One(CLASSES),
         further: Ask::One(CLASSES),
@@ -675,7 +689,7 @@ pub static OPERATIONS: [Row; 68] = [
     },
     Row {
         word: *b"areaaverage         ",
-        meant: Meant::Unbuilt,
+        meant: Meant::Op(Op::AreaAverage),
         first: SCALAR,
         second: Ask::One(CLASSES),
         further: Ask::One(CLASSES),
@@ -686,7 +700,7 @@ pub static OPERATIONS: [Row; 68] = [
     },
     Row {
         word: *b"areaminimum         ",
-        meant: Meant::Unbuilt,
+        meant: Meant::Op(Op::AreaMinimum),
         first: Ask::One(ORDERED),
         second: Ask::One(CLASSES),
         further: Ask::One(CLASSES),
@@ -697,7 +711,7 @@ pub static OPERATIONS: [Row; 68] = [
     },
     Row {
         word: *b"areamaximum         ",
-        meant: Meant::Unbuilt,
+        meant: Meant::Op(Op::AreaMaximum),
         first: Ask::One(ORDERED),
         second: Ask::One(CLASSES),
         further: Ask::One(CLASSES),
@@ -708,7 +722,7 @@ pub static OPERATIONS: [Row; 68] = [
     },
     Row {
         word: *b"areadiversity       ",
-        meant: Meant::Unbuilt,
+        meant: Meant::Op(Op::AreaDiversity),
         first: Ask::One(CLASSES),
         second: Ask::One(CLASSES),
         further: Ask::One(CLASSES),
@@ -719,7 +733,7 @@ pub static OPERATIONS: [Row; 68] = [
     },
     Row {
         word: *b"areamajority        ",
-        meant: Meant::Unbuilt,
+        meant: Meant::Op(Op::AreaMajority),
         first: Ask::One(CLASSES),
         second: Ask::One(CLASSES),
         further: Ask::One(CLASSES),
@@ -730,7 +744,7 @@ pub static OPERATIONS: [Row; 68] = [
     },
     Row {
         word: *b"areaarea            ",
-        meant: Meant::Unbuilt,
+        meant: Meant::Op(Op::AreaArea),
         first: Ask::One(CLASSES),
         second: Ask::One(CLASSES),
         further: Ask::One(CLASSES),
@@ -741,7 +755,7 @@ pub static OPERATIONS: [Row; 68] = [
     },
     Row {
         word: *b"maptotal            ",
-        meant: Meant::Unbuilt,
+        meant: Meant::Op(Op::MapTotal),
         first: SCALAR,
         second: SCALAR,
         further: SCALAR,
@@ -752,7 +766,7 @@ pub static OPERATIONS: [Row; 68] = [
     },
     Row {
         word: *b"mapminimum          ",
-        meant: Meant::Unbuilt,
+        meant: Meant::Op(Op::MapMinimum),
         first: Ask::One(ORDERED),
         second: Ask::One(ORDERED),
         further: Ask::One(ORDERED),
@@ -763,7 +777,7 @@ pub static OPERATIONS: [Row; 68] = [
     },
     Row {
         word: *b"mapmaximum          ",
-        meant: Meant::Unbuilt,
+        meant: Meant::Op(Op::MapMaximum),
         first: Ask::One(ORDERED),
         second: Ask::One(ORDERED),
         further: Ask::One(ORDERED),
@@ -774,7 +788,7 @@ pub static OPERATIONS: [Row; 68] = [
     },
     Row {
         word: *b"upstream            ",
-        meant: Meant::Unbuilt,
+        meant: Meant::Op(Op::Near(NearOp::Upstream)),
         first: DRAIN,
         second: SCALAR,
         further: SCALAR,
@@ -785,7 +799,7 @@ pub static OPERATIONS: [Row; 68] = [
     },
     Row {
         word: *b"downstream          ",
-        meant: Meant::Unbuilt,
+        meant: Meant::Op(Op::Near(NearOp::Downstream)),
         first: DRAIN,
         second: SCALAR,
         further: SCALAR,
@@ -796,7 +810,7 @@ pub static OPERATIONS: [Row; 68] = [
     },
     Row {
         word: *b"accuflux            ",
-        meant: Meant::Unbuilt,
+        meant: Meant::Op(Op::Flow(FlowOp::Accuflux)),
         first: DRAIN,
         second: SCALAR,
         further: SCALAR,
@@ -807,7 +821,7 @@ pub static OPERATIONS: [Row; 68] = [
     },
     Row {
         word: *b"accuthresholdflux   ",
-        meant: Meant::Unbuilt,
+        meant: Meant::Op(Op::Flow(FlowOp::ThresholdFlux)),
         first: DRAIN,
         second: SCALAR,
         further: SCALAR,
@@ -818,7 +832,7 @@ pub static OPERATIONS: [Row; 68] = [
     },
     Row {
         word: *b"accuthresholdstate  ",
-        meant: Meant::Unbuilt,
+        meant: Meant::Op(Op::Flow(FlowOp::ThresholdState)),
         first: DRAIN,
         second: SCALAR,
         further: SCALAR,
@@ -829,7 +843,7 @@ pub static OPERATIONS: [Row; 68] = [
     },
     Row {
         word: *b"catchment           ",
-        meant: Meant::Unbuilt,
+        meant: Meant::Op(Op::Flow(FlowOp::Catchment)),
         first: DRAIN,
         second: Ask::One(CLASSES),
         further: Ask::One(CLASSES),
@@ -840,7 +854,7 @@ pub static OPERATIONS: [Row; 68] = [
     },
     Row {
         word: *b"lddmask             ",
-        meant: Meant::Unbuilt,
+        meant: Meant::Mask,
         first: DRAIN,
         second: BOOLEAN,
         further: BOOLEAN,

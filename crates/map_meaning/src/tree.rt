@@ -44,15 +44,22 @@ pub enum Tree {
         /// The operands, from the left.
         operands: Items<Tree>,
     },
-    /// An operation that looks its results up in a table or a series.
-    LookUp {
+    /// An operation that is told more than its operands: where it looks its results up, or the length of its window.
+    CallWith {
         /// The kind of the result.
         kind: Kind,
         /// What is computed.
         op: Op,
-        /// The number of the input that is the table or the series.
+        /// The number of the input that is the table or the series; it counts for lookups and series alone.
         file: u32,
-        /// The operands behind the table or the series, from the left.
+        /// The length of the window; it counts for operations over windows alone.
+        window: u32,
+        /// The operands that are maps, from the left.
+        operands: Items<Tree>,
+    },
+    /// The part of a drain map that a mask keeps: a drain map again, and no operation.
+    Mask {
+        /// The drain map, and the mask.
         operands: Items<Tree>,
     },
 }

@@ -1,6 +1,6 @@
 -- Which results can be out of range.
 use Rattle.std.proofs.Common.{◌≡◌, ℕ, ◌+◌, ◌*◌, ◌%◌, ◌<◌, ◌≤◌, ◌&&◌, Bool, true, false, List, length, refl, sym, subst, Ok, cond, arith, lit<}
-use Rattle.std.specs.Prelude.{ℤ, pos, negsuc, neg_ℤ, unsigned_abs, ◌*ℤ◌, int_le, int_lt, not, ◌||◌, IsOk, nat_le}
+use Rattle.std.specs.Prelude.{All, ℤ, pos, negsuc, neg_ℤ, unsigned_abs, ◌*ℤ◌, int_le, int_lt, not, ◌||◌, IsOk, nat_le}
 use Rattle.std.specs.Int.{int_rem_euclid}
 use Rattle.std.specs.Ordering.{int_eq}
 use Rattle.std.proofs.Math.Nat.{mod-lt}
@@ -17,17 +17,29 @@ use Rattle.cell_values.specs.Rounding.{IsNearest, nearest}
 use Rattle.cell_values.proofs.Nearest.{nearest-IsNearest}
 use Rattle.cell_values.proofs.Readings.{test-from_value}
 use Rattle.time_series.specs.Values.{cell_in_row, cells_at}
+use Rattle.tile_map.specs.Cuts.{cell_at}
+use Rattle.region_meaning.specs.declared.area.AreaOp.TheVariants as area
+use Rattle.region_meaning.specs.declared.window.WindowOp.TheVariants as window
+use Rattle.region_meaning.proofs.Callers.{area_outcome-average_ok, area_outcome-diversity_ok, area_outcome-of_kind_ok, area_outcome-size_ok, window_outcome-average_ok, window_outcome-diversity_ok, window_outcome-of_kind_ok}
+use Rattle.drain_meaning.specs.declared.next.Next.{Next}
+use Rattle.drain_meaning.specs.declared.next.Next.TheVariants as next
+use Rattle.drain_meaning.specs.declared.op.NearOp.TheVariants as near
+use Rattle.drain_meaning.specs.Drains.{next_at}
+use Rattle.drain_meaning.specs.Flows.{flow_outcome, material}
+use Rattle.drain_meaning.specs.Near.{drained_place, near_outcome}
+use Rattle.drain_meaning.specs.Transports.{where_directed}
 use Rattle.map_meaning.specs.declared.op.Op.{Op}
 use Rattle.map_meaning.specs.declared.op.Op.TheVariants as op
-use Rattle.map_meaning.specs.Laws.{HaveKindsAt}
+use Rattle.map_meaning.specs.Laws.{AreMapsOfKinds}
 use Rattle.map_meaning.specs.Local.{defined_of, cover_of, if_else_of, if_then_of, is_either, is_one, truth}
 use Rattle.map_meaning.specs.Maps.{CellAt}
 use Rattle.map_meaning.specs.Missing.{at_cell}
 use Rattle.map_meaning.specs.Overs.{may_be_over}
-use Rattle.map_meaning.specs.Rules.{Setting, kind_at, operand_at, outcome_of, rule_of}
+use Rattle.map_meaning.specs.Rules.{Setting, alike, drain_by, kind_at, operand_at, outcome_of, reach_of, rule_of, setting_places, whole_by, zone_places}
 use Rattle.map_meaning.specs.Table.{HasKinds, is_kind, map_row, row_of}
 use Rattle.map_meaning.specs.Whole.{whole_above, whole_below, whole_nearest}
 use Rattle.map_meaning.proofs.Callers.{same_kind}
+use Rattle.map_meaning.proofs.InKinds.{at_place, whole_in, zones_few, zones_in}
 use Rattle.map_meaning.proofs.NearWhole.{above, below}
 use Rattle.map_meaning.proofs.laws.few_operations_leave_their_range.Goals as goal
 
@@ -145,61 +157,105 @@ defined_ok : (x : Cell) → IsOk (defined_of x)
 defined_ok Mv = refl
 defined_ok (Val a) = refl
 
+-- ---- down stream
+
+-- what is there of a cell, where there is a direction
+directed_ok : (n : Next) (x : Cell) → IsCell Scalar x → IsOk (flow_outcome Scalar (where_directed n (material x)))
+directed_ok next.Missing x h = refl
+directed_ok next.Pit Mv h = refl
+directed_ok next.Pit (Val z) h = fits Scalar z h
+directed_ok next.Outside Mv h = refl
+directed_ok next.Outside (Val z) h = fits Scalar z h
+directed_ok (next.Cell d) Mv h = refl
+directed_ok (next.Cell d) (Val z) h = fits Scalar z h
+
+downstream_ok : (setting : Setting) (codes values : CellAt) (place : ℕ) → All (IsCell Scalar) (whole_by setting values) → IsOk (near_outcome near.Downstream (drain_by setting codes) (cell_at (whole_by setting values)) place)
+unfolding near_outcome
+downstream_ok setting codes values place all =
+    let n = next_at (drain_by setting codes) place in
+    directed_ok n (cell_at (whole_by setting values) (drained_place place n)) (at_place Scalar (whole_by setting values) (drained_place place n) all)
+
 -- ---- the operations
 
 -- one operand is there
 one_there : (n high : ℕ) → (nat_le 1 n && nat_le n high) ≡ true → 0 < n
 one_there n high h = let parts = and_parts (nat_le 1 n) (nat_le n high) h in grind (arith, parts.0)
 
+-- the first of two operands is there, and the second
+two_there : (n high : ℕ) → (nat_le 2 n && nat_le n high) ≡ true → 0 < n
+two_there n high h = let parts = and_parts (nat_le 2 n) (nat_le n high) h in grind (arith, parts.0)
+
+second_there : (n high : ℕ) → (nat_le 2 n && nat_le n high) ≡ true → 1 < n
+second_there n high h = let parts = and_parts (nat_le 2 n) (nat_le n high) h in grind (arith, parts.0)
+
 -- a cell of a kind that is a scalar
 scalar_cell : (k : Kind) (x : Cell) → is_kind Scalar k ≡ true → IsCell k x → IsCell Scalar x
 scalar_cell k x same h = subst (λ j. IsCell j x) (sym (same_kind Scalar k same)) h
 
-stays : (o : Op) (setting : Setting) (kind : Kind) (operands : List CellAt) (place : ℕ) → may_be_over o ≡ false → HasKinds (map_row (row_of o)) setting.kinds kind → HaveKindsAt setting.kinds operands place → IsOk (outcome_of o setting operands place)
+stays : (o : Op) (setting : Setting) (kind : Kind) (operands : List CellAt) (place : ℕ) → may_be_over o ≡ false → HasKinds (map_row (row_of o)) setting.kinds kind → AreMapsOfKinds setting operands → place < setting_places setting → IsOk (outcome_of o setting operands place)
 unfolding row_of rule_of
-stays op.CopyOf setting kind operands place may h cells = refl
-stays op.Add setting kind operands place may h cells = absurd (cc)
-stays op.Sub setting kind operands place may h cells = absurd (cc)
-stays op.Mul setting kind operands place may h cells = absurd (cc)
-stays op.Div setting kind operands place may h cells = absurd (cc)
-stays op.IntDiv setting kind operands place may h cells = absurd (cc)
-stays op.ToNominal setting kind operands place may h cells = absurd (cc)
-stays op.ToOrdinal setting kind operands place may h cells = absurd (cc)
-stays op.IntMod setting kind operands place may h cells = refl
-stays op.Neg setting kind operands place may h cells = let there = one_there (length setting.kinds) 1 h.count in on_scalar (λ z. neg_ℤ z) negative_stays (operand_at operands 0 place) (scalar_cell (kind_at setting.kinds 0) (operand_at operands 0 place) (h.each 0 there) (cells 0 there))
-stays op.Abs setting kind operands place may h cells = let there = one_there (length setting.kinds) 1 h.count in on_scalar (λ z. pos (unsigned_abs z)) size_stays (operand_at operands 0 place) (scalar_cell (kind_at setting.kinds 0) (operand_at operands 0 place) (h.each 0 there) (cells 0 there))
-stays op.RoundDown setting kind operands place may h cells = let there = one_there (length setting.kinds) 1 h.count in on_scalar (λ z. whole_below z) below_stays (operand_at operands 0 place) (scalar_cell (kind_at setting.kinds 0) (operand_at operands 0 place) (h.each 0 there) (cells 0 there))
-stays op.RoundUp setting kind operands place may h cells = let there = one_there (length setting.kinds) 1 h.count in on_scalar (λ z. whole_above z) above_stays (operand_at operands 0 place) (scalar_cell (kind_at setting.kinds 0) (operand_at operands 0 place) (h.each 0 there) (cells 0 there))
-stays op.RoundOff setting kind operands place may h cells = let there = one_there (length setting.kinds) 1 h.count in on_scalar (λ z. whole_nearest z) nearest_stays (operand_at operands 0 place) (scalar_cell (kind_at setting.kinds 0) (operand_at operands 0 place) (h.each 0 there) (cells 0 there))
-stays op.Min setting kind operands place may h cells = cells_ok (λ a b. Val (cond (int_le a b) a b)) (operand_at operands 0 place) (operand_at operands 1 place)
-stays op.Max setting kind operands place may h cells = cells_ok (λ a b. Val (cond (int_le a b) b a)) (operand_at operands 0 place) (operand_at operands 1 place)
-stays op.Equal setting kind operands place may h cells = cells_ok (λ a b. truth (int_eq a b)) (operand_at operands 0 place) (operand_at operands 1 place)
-stays op.NotEqual setting kind operands place may h cells = cells_ok (λ a b. truth (not (int_eq a b))) (operand_at operands 0 place) (operand_at operands 1 place)
-stays op.Less setting kind operands place may h cells = cells_ok (λ a b. truth (int_lt a b)) (operand_at operands 0 place) (operand_at operands 1 place)
-stays op.LessEqual setting kind operands place may h cells = cells_ok (λ a b. truth (int_le a b)) (operand_at operands 0 place) (operand_at operands 1 place)
-stays op.Greater setting kind operands place may h cells = cells_ok (λ a b. truth (int_lt b a)) (operand_at operands 0 place) (operand_at operands 1 place)
-stays op.GreaterEqual setting kind operands place may h cells = cells_ok (λ a b. truth (int_le b a)) (operand_at operands 0 place) (operand_at operands 1 place)
-stays op.And setting kind operands place may h cells = cells_ok (λ a b. truth (is_one a && is_one b)) (operand_at operands 0 place) (operand_at operands 1 place)
-stays op.Or setting kind operands place may h cells = cells_ok (λ a b. truth (is_one a || is_one b)) (operand_at operands 0 place) (operand_at operands 1 place)
-stays op.Xor setting kind operands place may h cells = cells_ok (λ a b. truth (is_either (is_one a) (is_one b))) (operand_at operands 0 place) (operand_at operands 1 place)
-stays op.Not setting kind operands place may h cells = cell_ok (λ a. truth (not (is_one a))) (operand_at operands 0 place)
-stays op.IfThen setting kind operands place may h cells = if_then_ok (operand_at operands 0 place) (operand_at operands 1 place)
-stays op.IfElse setting kind operands place may h cells = if_else_ok (operand_at operands 0 place) (operand_at operands 1 place) (operand_at operands 2 place)
-stays op.Cover setting kind operands place may h cells = cover_ok (operand_at operands 0 place) (operand_at operands 1 place)
-stays op.Defined setting kind operands place may h cells = defined_ok (operand_at operands 0 place)
-stays op.ToBoolean setting kind operands place may h cells = let there = one_there (length setting.kinds) 1 h.count in boolean_from (kind_at setting.kinds 0) (operand_at operands 0 place) (h.each 0 there) (cells 0 there)
-stays op.ToDirectional setting kind operands place may h cells = let there = one_there (length setting.kinds) 1 h.count in direction_from (kind_at setting.kinds 0) (operand_at operands 0 place) (h.each 0 there) (cells 0 there)
-stays op.ToScalar setting kind operands place may h cells = scalar_from (kind_at setting.kinds 0) (operand_at operands 0 place) (cells 0 (one_there (length setting.kinds) 1 h.count))
-stays op.LookupBoolean setting kind operands place may h cells = refl
-stays op.LookupNominal setting kind operands place may h cells = refl
-stays op.LookupOrdinal setting kind operands place may h cells = refl
-stays op.LookupScalar setting kind operands place may h cells = refl
-stays op.LookupDirectional setting kind operands place may h cells = refl
-stays op.TimeInputBoolean setting kind operands place may h cells = cell_ok (λ id. cell_in_row (cells_at setting.series.rows setting.step) id) (operand_at operands 0 place)
-stays op.TimeInputNominal setting kind operands place may h cells = cell_ok (λ id. cell_in_row (cells_at setting.series.rows setting.step) id) (operand_at operands 0 place)
-stays op.TimeInputOrdinal setting kind operands place may h cells = cell_ok (λ id. cell_in_row (cells_at setting.series.rows setting.step) id) (operand_at operands 0 place)
-stays op.TimeInputScalar setting kind operands place may h cells = cell_ok (λ id. cell_in_row (cells_at setting.series.rows setting.step) id) (operand_at operands 0 place)
-stays op.TimeInputDirectional setting kind operands place may h cells = cell_ok (λ id. cell_in_row (cells_at setting.series.rows setting.step) id) (operand_at operands 0 place)
+stays op.CopyOf setting kind operands place may h maps below = refl
+stays op.Add setting kind operands place may h maps below = absurd (cc)
+stays op.Sub setting kind operands place may h maps below = absurd (cc)
+stays op.Mul setting kind operands place may h maps below = absurd (cc)
+stays op.Div setting kind operands place may h maps below = absurd (cc)
+stays op.IntDiv setting kind operands place may h maps below = absurd (cc)
+stays op.ToNominal setting kind operands place may h maps below = absurd (cc)
+stays op.ToOrdinal setting kind operands place may h maps below = absurd (cc)
+stays op.IntMod setting kind operands place may h maps below = refl
+stays op.Neg setting kind operands place may h maps below = let there = one_there (length setting.kinds) 1 h.count in on_scalar (λ z. neg_ℤ z) negative_stays (operand_at operands 0 place) (scalar_cell (kind_at setting.kinds 0) (operand_at operands 0 place) (h.each 0 there) (maps.kinds place below 0 there))
+stays op.Abs setting kind operands place may h maps below = let there = one_there (length setting.kinds) 1 h.count in on_scalar (λ z. pos (unsigned_abs z)) size_stays (operand_at operands 0 place) (scalar_cell (kind_at setting.kinds 0) (operand_at operands 0 place) (h.each 0 there) (maps.kinds place below 0 there))
+stays op.RoundDown setting kind operands place may h maps below = let there = one_there (length setting.kinds) 1 h.count in on_scalar (λ z. whole_below z) below_stays (operand_at operands 0 place) (scalar_cell (kind_at setting.kinds 0) (operand_at operands 0 place) (h.each 0 there) (maps.kinds place below 0 there))
+stays op.RoundUp setting kind operands place may h maps below = let there = one_there (length setting.kinds) 1 h.count in on_scalar (λ z. whole_above z) above_stays (operand_at operands 0 place) (scalar_cell (kind_at setting.kinds 0) (operand_at operands 0 place) (h.each 0 there) (maps.kinds place below 0 there))
+stays op.RoundOff setting kind operands place may h maps below = let there = one_there (length setting.kinds) 1 h.count in on_scalar (λ z. whole_nearest z) nearest_stays (operand_at operands 0 place) (scalar_cell (kind_at setting.kinds 0) (operand_at operands 0 place) (h.each 0 there) (maps.kinds place below 0 there))
+stays op.Min setting kind operands place may h maps below = cells_ok (λ a b. Val (cond (int_le a b) a b)) (operand_at operands 0 place) (operand_at operands 1 place)
+stays op.Max setting kind operands place may h maps below = cells_ok (λ a b. Val (cond (int_le a b) b a)) (operand_at operands 0 place) (operand_at operands 1 place)
+stays op.Equal setting kind operands place may h maps below = cells_ok (λ a b. truth (int_eq a b)) (operand_at operands 0 place) (operand_at operands 1 place)
+stays op.NotEqual setting kind operands place may h maps below = cells_ok (λ a b. truth (not (int_eq a b))) (operand_at operands 0 place) (operand_at operands 1 place)
+stays op.Less setting kind operands place may h maps below = cells_ok (λ a b. truth (int_lt a b)) (operand_at operands 0 place) (operand_at operands 1 place)
+stays op.LessEqual setting kind operands place may h maps below = cells_ok (λ a b. truth (int_le a b)) (operand_at operands 0 place) (operand_at operands 1 place)
+stays op.Greater setting kind operands place may h maps below = cells_ok (λ a b. truth (int_lt b a)) (operand_at operands 0 place) (operand_at operands 1 place)
+stays op.GreaterEqual setting kind operands place may h maps below = cells_ok (λ a b. truth (int_le b a)) (operand_at operands 0 place) (operand_at operands 1 place)
+stays op.And setting kind operands place may h maps below = cells_ok (λ a b. truth (is_one a && is_one b)) (operand_at operands 0 place) (operand_at operands 1 place)
+stays op.Or setting kind operands place may h maps below = cells_ok (λ a b. truth (is_one a || is_one b)) (operand_at operands 0 place) (operand_at operands 1 place)
+stays op.Xor setting kind operands place may h maps below = cells_ok (λ a b. truth (is_either (is_one a) (is_one b))) (operand_at operands 0 place) (operand_at operands 1 place)
+stays op.Not setting kind operands place may h maps below = cell_ok (λ a. truth (not (is_one a))) (operand_at operands 0 place)
+stays op.IfThen setting kind operands place may h maps below = if_then_ok (operand_at operands 0 place) (operand_at operands 1 place)
+stays op.IfElse setting kind operands place may h maps below = if_else_ok (operand_at operands 0 place) (operand_at operands 1 place) (operand_at operands 2 place)
+stays op.Cover setting kind operands place may h maps below = cover_ok (operand_at operands 0 place) (operand_at operands 1 place)
+stays op.Defined setting kind operands place may h maps below = defined_ok (operand_at operands 0 place)
+stays op.ToBoolean setting kind operands place may h maps below = let there = one_there (length setting.kinds) 1 h.count in boolean_from (kind_at setting.kinds 0) (operand_at operands 0 place) (h.each 0 there) (maps.kinds place below 0 there)
+stays op.ToDirectional setting kind operands place may h maps below = let there = one_there (length setting.kinds) 1 h.count in direction_from (kind_at setting.kinds 0) (operand_at operands 0 place) (h.each 0 there) (maps.kinds place below 0 there)
+stays op.ToScalar setting kind operands place may h maps below = scalar_from (kind_at setting.kinds 0) (operand_at operands 0 place) (maps.kinds place below 0 (one_there (length setting.kinds) 1 h.count))
+stays op.LookupBoolean setting kind operands place may h maps below = refl
+stays op.LookupNominal setting kind operands place may h maps below = refl
+stays op.LookupOrdinal setting kind operands place may h maps below = refl
+stays op.LookupScalar setting kind operands place may h maps below = refl
+stays op.LookupDirectional setting kind operands place may h maps below = refl
+stays op.TimeInputBoolean setting kind operands place may h maps below = cell_ok (λ id. cell_in_row (cells_at setting.series.rows setting.step) id) (operand_at operands 0 place)
+stays op.TimeInputNominal setting kind operands place may h maps below = cell_ok (λ id. cell_in_row (cells_at setting.series.rows setting.step) id) (operand_at operands 0 place)
+stays op.TimeInputOrdinal setting kind operands place may h maps below = cell_ok (λ id. cell_in_row (cells_at setting.series.rows setting.step) id) (operand_at operands 0 place)
+stays op.TimeInputScalar setting kind operands place may h maps below = cell_ok (λ id. cell_in_row (cells_at setting.series.rows setting.step) id) (operand_at operands 0 place)
+stays op.TimeInputDirectional setting kind operands place may h maps below = cell_ok (λ id. cell_in_row (cells_at setting.series.rows setting.step) id) (operand_at operands 0 place)
+stays op.WindowTotal setting kind operands place may h maps below = absurd (cc)
+stays op.AreaTotal setting kind operands place may h maps below = absurd (cc)
+stays op.MapTotal setting kind operands place may h maps below = absurd (cc)
+stays (op.Near near.Upstream) setting kind operands place may h maps below = absurd (cc)
+stays (op.Flow o) setting kind operands place may h maps below = absurd (cc)
+stays op.WindowAverage setting kind operands place may h maps below = let there = one_there (length setting.kinds) 1 h.count in window_outcome-average_ok setting.rows setting.cols (reach_of setting.window) (whole_by setting (operand_at operands 0)) place (subst (λ k. All (IsCell k) (whole_by setting (operand_at operands 0))) (sym (same_kind Scalar (kind_at setting.kinds 0) (h.each 0 there))) (whole_in setting operands 0 there maps))
+stays op.WindowDiversity setting kind operands place may h maps below = window_outcome-diversity_ok setting.rows setting.cols (reach_of setting.window) (whole_by setting (operand_at operands 0)) place maps.few
+stays op.WindowMinimum setting kind operands place may h maps below = window_outcome-of_kind_ok window.Minimum setting.rows setting.cols (reach_of setting.window) (whole_by setting (operand_at operands 0)) place refl
+stays op.WindowMaximum setting kind operands place may h maps below = window_outcome-of_kind_ok window.Maximum setting.rows setting.cols (reach_of setting.window) (whole_by setting (operand_at operands 0)) place refl
+stays op.WindowMajority setting kind operands place may h maps below = window_outcome-of_kind_ok window.Majority setting.rows setting.cols (reach_of setting.window) (whole_by setting (operand_at operands 0)) place refl
+stays op.AreaAverage setting kind operands place may h maps below = let there = two_there (length setting.kinds) 2 h.count in area_outcome-average_ok (zone_places setting (operand_at operands 0) (operand_at operands 1)) (operand_at operands 1 place) (subst (λ k. All (λ p. IsCell k p.value) (zone_places setting (operand_at operands 0) (operand_at operands 1))) (sym (same_kind Scalar (kind_at setting.kinds 0) (h.each 0 there))) (zones_in setting operands (operand_at operands 1) 0 there maps))
+stays op.AreaDiversity setting kind operands place may h maps below = area_outcome-diversity_ok (zone_places setting (operand_at operands 0) (operand_at operands 1)) (operand_at operands 1 place) (zones_few setting (operand_at operands 0) (operand_at operands 1) maps.few)
+stays op.AreaMinimum setting kind operands place may h maps below = area_outcome-of_kind_ok area.Minimum (zone_places setting (operand_at operands 0) (operand_at operands 1)) (operand_at operands 1 place) refl
+stays op.AreaMaximum setting kind operands place may h maps below = area_outcome-of_kind_ok area.Maximum (zone_places setting (operand_at operands 0) (operand_at operands 1)) (operand_at operands 1 place) refl
+stays op.AreaMajority setting kind operands place may h maps below = area_outcome-of_kind_ok area.Majority (zone_places setting (operand_at operands 0) (operand_at operands 1)) (operand_at operands 1 place) refl
+stays op.AreaArea setting kind operands place may h maps below = area_outcome-size_ok (zone_places setting (alike 0) (operand_at operands 0)) (operand_at operands 0 place)
+stays op.MapMinimum setting kind operands place may h maps below = area_outcome-of_kind_ok area.Minimum (zone_places setting (operand_at operands 0) (alike 1)) (alike 1 place) refl
+stays op.MapMaximum setting kind operands place may h maps below = area_outcome-of_kind_ok area.Maximum (zone_places setting (operand_at operands 0) (alike 1)) (alike 1 place) refl
+stays (op.Near near.Downstream) setting kind operands place may h maps below = let there = second_there (length setting.kinds) 2 h.count in downstream_ok setting (operand_at operands 0) (operand_at operands 1) place (subst (λ k. All (IsCell k) (whole_by setting (operand_at operands 1))) (sym (same_kind Scalar (kind_at setting.kinds 1) (h.each 1 there))) (whole_in setting operands 1 there maps))
 
 pub returns : goal.returns
-returns c o setting kind operands places place may h cells below = stays o setting kind operands place may h (cells place below)
+returns c o setting kind operands place may h maps below = stays o setting kind operands place may h maps below

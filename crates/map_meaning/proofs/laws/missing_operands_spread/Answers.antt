@@ -1,6 +1,7 @@
-use Rattle.std.proofs.Common.{◌≡◌, ℕ, zero, suc, ◌<◌, Bool, true, false, List, refl, ap, ◌∙◌, cond, Ok, arith, ◌⊎◌, inl, inr}
+use Rattle.std.proofs.Common.{◌≡◌, ℕ, zero, suc, ◌<◌, ◌≤◌, map, length, Bool, true, false, List, refl, ap, ◌∙◌, cond, Ok, arith, ◌⊎◌, inl, inr}
 use Rattle.std.specs.Prelude.{ℤ, pos, ◌+ℤ◌, ◌-ℤ◌, ◌*ℤ◌, neg_ℤ, unsigned_abs, int_le, int_lt, not, ◌&&◌, ◌||◌}
 use Rattle.std.specs.Ordering.{int_eq}
+use Rattle.cell_values.specs.declared.kind.Kind.{Kind}
 use Rattle.cell_values.specs.declared.kind.Kind.TheVariants.{Boolean, Nominal, Ordinal, Scalar, Directional}
 use Rattle.cell_values.specs.declared.cell.Cell.{Cell}
 use Rattle.cell_values.specs.declared.cell.Cell.TheVariants.{Mv, Val}
@@ -9,12 +10,29 @@ use Rattle.cell_values.specs.Arithmetic.{at_cells, scalar_remainder}
 use Rattle.cell_values.specs.Conversion.{conversion_of}
 use Rattle.cell_values.specs.Rounding.{cut_quotient, nearest, nearest_quotient}
 use Rattle.tile_map.specs.Parts.{Outcome}
+use Rattle.std.proofs.lemmas.Bool.{cases_lt}
+use Rattle.std.proofs.lemmas.List.{get_or_past}
+use Rattle.tile_map.specs.Cuts.{cell_at}
+use Rattle.tile_map.proofs.PartLemmas.{get_or-tabulate, length-tabulate}
+use Rattle.region_meaning.specs.declared.area.AreaOp.TheVariants as area
+use Rattle.region_meaning.specs.AreaResults.{area_outcome}
+use Rattle.drain_meaning.specs.declared.flow.Flow.{Flow}
+use Rattle.drain_meaning.specs.declared.flow.Flow.TheVariants as flow
+use Rattle.drain_meaning.specs.declared.next.Next.{Next}
+use Rattle.drain_meaning.specs.declared.next.Next.TheVariants as next
+use Rattle.drain_meaning.specs.declared.op.FlowOp.{FlowOp}
+use Rattle.drain_meaning.specs.declared.op.FlowOp.TheVariants as flows
+use Rattle.drain_meaning.specs.Drains.{DrainMap, next_at}
+use Rattle.drain_meaning.specs.Equations.{above_threshold, equation_of, gathered_material, transport_of}
+use Rattle.drain_meaning.specs.Flows.{at_flows, flow_outcome, material, total_flow}
+use Rattle.drain_meaning.specs.Transports.{Transport, end_after, end_of, feeders, transport_outcome, where_directed}
+use Rattle.drain_meaning.proofs.Callers.{next_at-missing}
 use Rattle.map_meaning.specs.declared.op.Op.{Op}
 use Rattle.map_meaning.specs.declared.op.Op.TheVariants as op
 use Rattle.map_meaning.specs.Local.{lookup_of, timeinput_of, if_then_of, is_either, is_one, truth}
 use Rattle.map_meaning.specs.Maps.{CellAt}
 use Rattle.map_meaning.specs.Missing.{at_cell, spreads_missing}
-use Rattle.map_meaning.specs.Rules.{Setting, kind_at, operand_at, outcome_of, rule_of}
+use Rattle.map_meaning.specs.Rules.{Setting, alike, drain_by, kind_at, operand_at, outcome_of, rule_of, setting_places, whole_by, zone_places}
 use Rattle.map_meaning.specs.Table.{map_row, row_of}
 use Rattle.map_meaning.specs.Whole.{whole_above, whole_below, whole_nearest}
 use Rattle.map_meaning.proofs.laws.missing_operands_spread.Goals as goal
@@ -69,6 +87,105 @@ of_then : (c x : Cell) → (c ≡ Mv) ⊎ (x ≡ Mv) → if_then_of c x ≡ Ok M
 of_then c x (inl h) = ap (λ z. if_then_of z x) h
 of_then c x (inr h) = ap (if_then_of c) h ∙ then_second c
 
+-- ---- transports
+
+-- a map is missing where its operand is
+whole_missing : (setting : Setting) (operand : CellAt) (place : ℕ) → operand place ≡ Mv → cell_at (whole_by setting operand) place ≡ Mv
+whole_missing setting operand place gone = by_case (cases_lt place (setting_places setting))
+  where
+    by_case : (place < setting_places setting) ⊎ (setting_places setting ≤ place) → cell_at (whole_by setting operand) place ≡ Mv
+    by_case (inl below) = get_or-tabulate operand (setting_places setting) place Mv below ∙ gone
+    by_case (inr past) = get_or_past (whole_by setting operand) place Mv (let count = length-tabulate operand (setting_places setting) in omega (arith, past, count))
+
+-- a missing flow makes what it goes together with missing
+gone_first : (f : ℤ → ℤ → ℤ) (x y : Flow) → x ≡ flow.Mv → at_flows f x y ≡ flow.Mv
+gone_first f x y h = ap (λ z. at_flows f z y) h
+
+gone_second : (f : ℤ → ℤ → ℤ) (x y : Flow) → y ≡ flow.Mv → at_flows f x y ≡ flow.Mv
+gone_second f flow.Mv y h = refl
+gone_second f (flow.Num a) y h = ap (at_flows f (flow.Num a)) h
+
+-- a flow that is missing gives a missing value
+flow_gone : (kind : Kind) (n : Next) (f : Flow) → f ≡ flow.Mv → flow_outcome kind (where_directed n f) ≡ Ok Mv
+flow_gone kind next.Pit f h = ap (flow_outcome kind) h
+flow_gone kind (next.Cell d) f h = ap (flow_outcome kind) h
+flow_gone kind next.Outside f h = ap (flow_outcome kind) h
+flow_gone kind next.Missing f h = refl
+
+-- where no inflows make the result there, it is missing
+transport_gone : (t : Transport) (kind : Kind) (m : DrainMap) (a b : CellAt) (place : ℕ) → ((inflows : List Flow) → (t.equation inflows (a place) (b place)).result ≡ flow.Mv) → transport_outcome t kind m a b place ≡ Ok Mv
+unfolding end_of
+transport_gone t kind m a b place none = flow_gone kind (next_at m place) (end_after t m a b (length m.codes) place).result (by_steps (length m.codes))
+  where
+    by_steps : (steps : ℕ) → (end_after t m a b steps place).result ≡ flow.Mv
+    by_steps zero = refl
+    by_steps (suc steps) = none (map (λ u. (end_after t m a b steps u).out) (feeders t.orient m place))
+
+-- where the drain map is missing, nothing is transported
+code_gone : (t : Transport) (kind : Kind) (setting : Setting) (codes a b : CellAt) (place : ℕ) → codes place ≡ Mv → transport_outcome t kind (drain_by setting codes) a b place ≡ Ok Mv
+code_gone t kind setting codes a b place gone =
+    ap (λ n. flow_outcome kind (where_directed n (end_of t (drain_by setting codes) a b place).result)) (next_at-missing (drain_by setting codes) place (whole_missing setting codes place gone))
+
+-- the equations
+
+gathered_gone : (inflows : List Flow) (a : Cell) → a ≡ Mv → gathered_material inflows a ≡ flow.Mv
+gathered_gone inflows a gone = gone_second (λ x y. x +ℤ y) (total_flow inflows) (material a) (ap material gone)
+
+above_gone : (total threshold : Flow) → (total ≡ flow.Mv) ⊎ (threshold ≡ flow.Mv) → above_threshold total threshold ≡ flow.Mv
+above_gone total threshold (inl h) = gone_first _ total threshold h
+above_gone total threshold (inr h) = gone_second _ total threshold h
+
+accuflux_gone : (inflows : List Flow) (a b : Cell) → a ≡ Mv → (equation_of flows.Accuflux inflows a b).result ≡ flow.Mv
+unfolding equation_of
+accuflux_gone inflows a b gone = gathered_gone inflows a gone
+
+catchment_gone : (inflows : List Flow) (a b : Cell) → a ≡ Mv → (equation_of flows.Catchment inflows a b).result ≡ flow.Mv
+unfolding equation_of
+catchment_gone inflows a b gone = gone_second _ (total_flow inflows) (material a) (ap material gone)
+
+flux_gone : (inflows : List Flow) (a b : Cell) → (a ≡ Mv) ⊎ (b ≡ Mv) → (equation_of flows.ThresholdFlux inflows a b).result ≡ flow.Mv
+unfolding equation_of
+flux_gone inflows a b (inl gone) = above_gone (gathered_material inflows a) (material b) (inl (gathered_gone inflows a gone))
+flux_gone inflows a b (inr gone) = above_gone (gathered_material inflows a) (material b) (inr (ap material gone))
+
+state_gone : (inflows : List Flow) (a b : Cell) → (a ≡ Mv) ⊎ (b ≡ Mv) → (equation_of flows.ThresholdState inflows a b).result ≡ flow.Mv
+unfolding equation_of
+state_gone inflows a b (inl gone) = gone_first (λ x y. x -ℤ y) (gathered_material inflows a) (above_threshold (gathered_material inflows a) (material b)) (gathered_gone inflows a gone)
+state_gone inflows a b (inr gone) = gone_second (λ x y. x -ℤ y) (gathered_material inflows a) (above_threshold (gathered_material inflows a) (material b)) (above_gone (gathered_material inflows a) (material b) (inr (ap material gone)))
+
+-- an operand that is not there as a drain map, or a value
+module _ (o : FlowOp) (setting : Setting) (operands : List CellAt) (place : ℕ) where
+  abbrev given : ℕ → CellAt
+  given i = cell_at (whole_by setting (operand_at operands i))
+
+  abbrev Gives : Type 0
+  Gives = transport_outcome (transport_of o) (kind_at setting.kinds 1) (drain_by setting (operand_at operands 0)) (given 1) (given 2) place ≡ Ok Mv
+
+  no_code : operand_at operands 0 place ≡ Mv → Gives
+  no_code gone = code_gone (transport_of o) (kind_at setting.kinds 1) setting (operand_at operands 0) (given 1) (given 2) place gone
+
+  no_material : ((inflows : List Flow) (a b : Cell) → a ≡ Mv → (equation_of o inflows a b).result ≡ flow.Mv) → operand_at operands 1 place ≡ Mv → Gives
+  no_material equation gone =
+      transport_gone (transport_of o) (kind_at setting.kinds 1) (drain_by setting (operand_at operands 0)) (given 1) (given 2) place
+      (λ inflows. equation inflows (given 1 place) (given 2 place) (whole_missing setting (operand_at operands 1) place gone))
+
+  no_threshold : ((inflows : List Flow) (a b : Cell) → b ≡ Mv → (equation_of o inflows a b).result ≡ flow.Mv) → operand_at operands 2 place ≡ Mv → Gives
+  no_threshold equation gone =
+      transport_gone (transport_of o) (kind_at setting.kinds 1) (drain_by setting (operand_at operands 0)) (given 1) (given 2) place
+      (λ inflows. equation inflows (given 1 place) (given 2 place) (whole_missing setting (operand_at operands 2) place gone))
+
+  -- a drain map and one operand
+  of_material : ((inflows : List Flow) (a b : Cell) → a ≡ Mv → (equation_of o inflows a b).result ≡ flow.Mv) → (operand_at operands 0 place ≡ Mv) ⊎ (operand_at operands 1 place ≡ Mv) → Gives
+  of_material equation (inl gone) = no_code gone
+  of_material equation (inr gone) = no_material equation gone
+
+  -- a drain map and two operands
+  of_threshold : ((inflows : List Flow) (a b : Cell) → (a ≡ Mv) ⊎ (b ≡ Mv) → (equation_of o inflows a b).result ≡ flow.Mv) → (i : ℕ) → i < 3 → operand_at operands i place ≡ Mv → Gives
+  of_threshold equation zero below gone = no_code gone
+  of_threshold equation (suc zero) below gone = no_material (λ inflows a b h. equation inflows a b (inl h)) gone
+  of_threshold equation (suc (suc zero)) below gone = no_threshold (λ inflows a b h. equation inflows a b (inr h)) gone
+  of_threshold equation (suc (suc (suc i))) below gone = absurd (omega arith)
+
 -- ---- the operations
 
 spreads : (o : Op) (setting : Setting) (operands : List CellAt) (place i : ℕ) →
@@ -117,6 +234,36 @@ spreads op.TimeInputNominal setting operands place i spread below gone = ap (tim
 spreads op.TimeInputOrdinal setting operands place i spread below gone = ap (timeinput_of setting.series setting.step) (only_one (λ i. operand_at operands i place ≡ Mv) i below gone)
 spreads op.TimeInputScalar setting operands place i spread below gone = ap (timeinput_of setting.series setting.step) (only_one (λ i. operand_at operands i place ≡ Mv) i below gone)
 spreads op.TimeInputDirectional setting operands place i spread below gone = ap (timeinput_of setting.series setting.step) (only_one (λ i. operand_at operands i place ≡ Mv) i below gone)
+spreads op.WindowTotal setting operands place i spread below gone = absurd (cc)
+spreads op.WindowAverage setting operands place i spread below gone = absurd (cc)
+spreads op.WindowMinimum setting operands place i spread below gone = absurd (cc)
+spreads op.WindowMaximum setting operands place i spread below gone = absurd (cc)
+spreads op.WindowDiversity setting operands place i spread below gone = absurd (cc)
+spreads op.WindowMajority setting operands place i spread below gone = absurd (cc)
+spreads op.AreaTotal setting operands place i spread below gone = absurd (cc)
+spreads op.AreaAverage setting operands place i spread below gone = absurd (cc)
+spreads op.AreaMinimum setting operands place i spread below gone = absurd (cc)
+spreads op.AreaMaximum setting operands place i spread below gone = absurd (cc)
+spreads op.AreaDiversity setting operands place i spread below gone = absurd (cc)
+spreads op.AreaMajority setting operands place i spread below gone = absurd (cc)
+spreads op.MapTotal setting operands place i spread below gone = absurd (cc)
+spreads op.MapMinimum setting operands place i spread below gone = absurd (cc)
+spreads op.MapMaximum setting operands place i spread below gone = absurd (cc)
+spreads (op.Near o) setting operands place i spread below gone = absurd (cc)
+spreads op.AreaArea setting operands place i spread below gone = ap (area_outcome area.Area (zone_places setting (alike 0) (operand_at operands 0))) (only_one (λ i. operand_at operands i place ≡ Mv) i below gone)
+spreads (op.Flow flows.Accuflux) setting operands place i spread below gone = of_material flows.Accuflux setting operands place accuflux_gone (one_of_two (λ i. operand_at operands i place ≡ Mv) i below gone)
+spreads (op.Flow flows.Catchment) setting operands place i spread below gone = of_material flows.Catchment setting operands place catchment_gone (one_of_two (λ i. operand_at operands i place ≡ Mv) i below gone)
+spreads (op.Flow flows.ThresholdFlux) setting operands place i spread below gone = of_threshold flows.ThresholdFlux setting operands place flux_gone i below gone
+spreads (op.Flow flows.ThresholdState) setting operands place i spread below gone = of_threshold flows.ThresholdState setting operands place state_gone i below gone
+spreads (op.Flow flows.CapacityFlux) setting operands place i spread below gone = no_code flows.CapacityFlux setting operands place (only_one (λ i. operand_at operands i place ≡ Mv) i below gone)
+spreads (op.Flow flows.CapacityState) setting operands place i spread below gone = no_code flows.CapacityState setting operands place (only_one (λ i. operand_at operands i place ≡ Mv) i below gone)
+spreads (op.Flow flows.TriggerFlux) setting operands place i spread below gone = no_code flows.TriggerFlux setting operands place (only_one (λ i. operand_at operands i place ≡ Mv) i below gone)
+spreads (op.Flow flows.TriggerState) setting operands place i spread below gone = no_code flows.TriggerState setting operands place (only_one (λ i. operand_at operands i place ≡ Mv) i below gone)
+spreads (op.Flow flows.FractionFlux) setting operands place i spread below gone = no_code flows.FractionFlux setting operands place (only_one (λ i. operand_at operands i place ≡ Mv) i below gone)
+spreads (op.Flow flows.FractionState) setting operands place i spread below gone = no_code flows.FractionState setting operands place (only_one (λ i. operand_at operands i place ≡ Mv) i below gone)
+spreads (op.Flow flows.Subcatchment) setting operands place i spread below gone = no_code flows.Subcatchment setting operands place (only_one (λ i. operand_at operands i place ≡ Mv) i below gone)
+spreads (op.Flow flows.PathOf) setting operands place i spread below gone = no_code flows.PathOf setting operands place (only_one (λ i. operand_at operands i place ≡ Mv) i below gone)
+spreads (op.Flow flows.StreamOrder) setting operands place i spread below gone = no_code flows.StreamOrder setting operands place (only_one (λ i. operand_at operands i place ≡ Mv) i below gone)
 
 pub returns : goal.returns
 returns c = spreads

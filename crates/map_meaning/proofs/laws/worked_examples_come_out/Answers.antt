@@ -1,9 +1,20 @@
 use Rattle.std.proofs.Common.{◌≡◌, ℕ, zero, suc, ◌<◌, List, [], ◌∷◌, refl, ap, ◌∙◌, true, false, arith}
 use Rattle.std.specs.Prelude.{codes, pos, Ok, Err}
-use Rattle.cell_values.specs.declared.kind.Kind.TheVariants.{Boolean, Nominal, Ordinal, Scalar}
+use Rattle.cell_values.specs.declared.kind.Kind.TheVariants.{Boolean, Ldd, Nominal, Ordinal, Scalar}
 use Rattle.cell_values.specs.declared.cell.Cell.{Cell}
 use Rattle.cell_values.specs.declared.cell.Cell.TheVariants.{Val}
 use Rattle.cell_values.specs.Rounding.{nearest, nearest_size}
+use Rattle.tile_map.specs.Rects.{grown, place_in, places_of}
+use Rattle.region_meaning.specs.AreaResults.{area_result}
+use Rattle.region_meaning.specs.Windows.{window_of, window_outcome}
+use Rattle.region_meaning.specs.inside.MostFrequent.{most_frequent}
+use Rattle.drain_meaning.specs.declared.op.FlowOp.TheVariants as flow
+use Rattle.drain_meaning.specs.Drains.{next_at, next_of}
+use Rattle.drain_meaning.specs.Equations.{equation_of}
+use Rattle.drain_meaning.specs.Masks.{lddmask_of}
+use Rattle.drain_meaning.specs.Near.{near_outcome}
+use Rattle.drain_meaning.specs.Transports.{end_of, feeders}
+use Rattle.map_meaning.specs.PlaceExamples.{all_but_third, codes_masked, flows_masked, row_scene, statements_over_mask}
 use Rattle.map_meaning.specs.declared.op.Op.{Op}
 use Rattle.map_meaning.specs.declared.op.Op.TheVariants as op
 use Rattle.map_meaning.specs.declared.tree.Tree.{Tree}
@@ -18,7 +29,7 @@ use Rattle.map_meaning.specs.Rules.{rule_of, kind_at}
 use Rattle.map_meaning.specs.Spans.{stage_of}
 use Rattle.map_meaning.specs.Table.{HasKinds, allows, ask_at, common_kind, map_row, row_of}
 use Rattle.map_meaning.specs.Trees.{Environment, TreeMeaning, meaning_of, meaning_level}
-use Rattle.map_meaning.proofs.Callers.{after_statements-map, after_statements-over, meaning_of-Call, meaning_of-Input, meaning_of-Name, meaning_of-Number}
+use Rattle.map_meaning.proofs.Callers.{after_statements-map, after_statements-over, meaning_of-Call, meaning_of-Input, meaning_of-Mask, meaning_of-Name, meaning_of-Number}
 use Rattle.map_meaning.proofs.laws.worked_examples_come_out.Goals as goal
 
 pub returns-clause-cells : goal.returns-clause-cells
@@ -77,6 +88,10 @@ two_places Q a b zero below = a
 two_places Q a b (suc zero) below = b
 two_places Q a b (suc (suc i)) below = absurd (omega arith)
 
+one_place : (Q : ℕ → Type 0) → Q 0 → (i : ℕ) → i < 1 → Q i
+one_place Q a zero below = a
+one_place Q a (suc i) below = absurd (omega arith)
+
 chosen : HasKinds (row_of op.IfElse) (Boolean ∷ Nominal ∷ Nominal ∷ []) Nominal
 unfolding row_of
 chosen = record {
@@ -117,8 +132,32 @@ no_ids : HasKinds (map_row (row_of op.TimeInputScalar)) (Scalar ∷ []) Scalar �
 unfolding row_of
 no_ids h = let e : false ≡ true = h.each 0 (omega arith) in cc
 
+one_map : HasKinds (map_row (row_of op.WindowTotal)) (Scalar ∷ []) Scalar
+unfolding row_of
+one_map = record {
+  count = refl;
+  each = let Q : ℕ → Type 0 = λ i. allows (common_kind (map_row (row_of op.WindowTotal)) (Scalar ∷ [])) (ask_at (map_row (row_of op.WindowTotal)) i) (kind_at (Scalar ∷ []) i) ≡ true in one_place Q refl;
+  gives = refl;
+}
+
+no_area : HasKinds (row_of op.AreaTotal) (Scalar ∷ Scalar ∷ []) Scalar → ⊥
+unfolding row_of
+no_area h = let e : false ≡ true = h.each 1 (omega arith) in cc
+
+of_points : HasKinds (row_of (op.Flow flow.Catchment)) (Ldd ∷ Nominal ∷ []) Nominal
+unfolding row_of
+of_points = record {
+  count = refl;
+  each = let Q : ℕ → Type 0 = λ i. allows (common_kind (row_of (op.Flow flow.Catchment)) (Ldd ∷ Nominal ∷ [])) (ask_at (row_of (op.Flow flow.Catchment)) i) (kind_at (Ldd ∷ Nominal ∷ []) i) ≡ true in two_places Q refl refl;
+  gives = refl;
+}
+
+no_directions : HasKinds (row_of (op.Flow flow.Accuflux)) (Nominal ∷ Scalar ∷ []) Scalar → ⊥
+unfolding row_of
+no_directions h = let e : false ≡ true = h.each 0 (omega arith) in cc
+
 pub returns-clause-kinds : goal.returns-clause-kinds
-returns-clause-kinds c = record { chosen = chosen; least = least; apart = apart; unordered = unordered; two_keys = two_keys; no_key = no_key; no_ids = no_ids }
+returns-clause-kinds c = record { chosen = chosen; least = least; apart = apart; unordered = unordered; two_keys = two_keys; no_key = no_key; no_ids = no_ids; one_map = one_map; no_area = no_area; of_points = of_points; no_directions = no_directions }
 
 pub returns-clause-programs : goal.returns-clause-programs
 unfolding stage_of operation_part rule_of
@@ -277,3 +316,59 @@ three_is = ap (after_step 3) two_is ∙ third_step
 
 pub returns-clause-steps : goal.returns-clause-steps
 returns-clause-steps c = record { one = ap (map_named (codes "X")) one_is; two = ap (map_named (codes "X")) two_is; three = ap (map_named (codes "X")) three_is }
+
+-- ---- windows, areas and whole maps
+
+pub returns-clause-regions : goal.returns-clause-regions
+unfolding rule_of window_outcome window_of grown places_of place_in area_result most_frequent nearest nearest_size
+returns-clause-regions c = record { window_total = refl; window_majority = refl; area_average = refl; area_total = refl; area_size = refl; map_total = refl }
+
+-- ---- drain directions
+
+pub returns-clause-drains : goal.returns-clause-drains
+unfolding rule_of next_at next_of near_outcome equation_of end_of feeders
+returns-clause-drains c = record { accuflux = refl; catchment = refl; flux = refl; state = refl; upstream = refl; downstream = refl }
+
+-- ---- a mask between two stages
+
+-- B
+abbrev as_condition : Statement
+as_condition = record { target = codes "B"; value = tree.Call Boolean op.Not (tree.Input Boolean 1 ∷ []) }
+
+condition_means : meaning_of as_condition.value ≡ meaning_level (Tree-F.Call Boolean op.Not (meaning_level (Tree-F.Input Boolean 1) ∷ []))
+condition_means = meaning_of-Call Boolean op.Not (tree.Input Boolean 1 ∷ []) ∙ ap (λ m. meaning_level (Tree-F.Call Boolean op.Not (m ∷ []))) (meaning_of-Input Boolean 1)
+
+-- K
+abbrev as_mask : Statement
+as_mask = record { target = codes "K"; value = tree.Mask (tree.Input Ldd 0 ∷ tree.Name Boolean (codes "B") ∷ []) }
+
+mask_means : meaning_of as_mask.value ≡ meaning_level (Tree-F.Mask (meaning_level (Tree-F.Input Ldd 0) ∷ meaning_level (Tree-F.Name Boolean (codes "B")) ∷ []))
+mask_means =
+    meaning_of-Mask (tree.Input Ldd 0 ∷ tree.Name Boolean (codes "B") ∷ [])
+    ∙ (ap (λ m. meaning_level (Tree-F.Mask (m ∷ meaning_of (tree.Name Boolean (codes "B")) ∷ []))) (meaning_of-Input Ldd 0)
+    ∙ ap (λ m. meaning_level (Tree-F.Mask (meaning_level (Tree-F.Input Ldd 0) ∷ m ∷ []))) (meaning_of-Name Boolean (codes "B")))
+
+-- Q
+abbrev as_flows : Statement
+as_flows = record { target = codes "Q"; value = tree.Call Scalar (op.Flow flow.Accuflux) (tree.Name Ldd (codes "K") ∷ tree.Number Scalar (whole_scalar 1) ∷ []) }
+
+flows_mean : meaning_of as_flows.value ≡ meaning_level (Tree-F.Call Scalar (op.Flow flow.Accuflux) (meaning_level (Tree-F.Name Ldd (codes "K")) ∷ meaning_level (Tree-F.Number Scalar (whole_scalar 1)) ∷ []))
+flows_mean =
+    pair_means (op.Flow flow.Accuflux) (tree.Name Ldd (codes "K")) (tree.Number Scalar (whole_scalar 1)) _ _ (meaning_of-Name Ldd (codes "K")) (meaning_of-Number Scalar (whole_scalar 1))
+
+masked_end : after_statements row_scene 1 start statements_over_mask ≡ Ok (assigned (assigned (assigned start as_condition all_but_third) as_mask codes_masked) as_flows flows_masked)
+unfolding rule_of next_at next_of equation_of end_of feeders lddmask_of
+masked_end =
+    after_statements-map row_scene 1 start as_condition (as_mask ∷ as_flows ∷ []) _ all_but_third condition_means refl
+    ∙ (after_statements-map row_scene 2 (assigned start as_condition all_but_third) as_mask (as_flows ∷ []) _ codes_masked mask_means refl
+    ∙ after_statements-map row_scene 3 (assigned (assigned start as_condition all_but_third) as_mask codes_masked) as_flows [] _ flows_masked flows_mean refl)
+
+pub returns-clause-masks : goal.returns-clause-masks
+unfolding stage_of operation_part rule_of next_at next_of equation_of end_of feeders lddmask_of
+returns-clause-masks c = record {
+  stages = refl;
+  staged = refl;
+  second = refl;
+  drains = ap (map_named (codes "K")) masked_end;
+  flows = ap (map_named (codes "Q")) masked_end;
+}
