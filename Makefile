@@ -37,6 +37,9 @@ demo: $(PROGRAM)
 	@scripts/demo $(PROGRAM) examples/first-sum
 	@scripts/demo $(PROGRAM) examples/storm-runoff
 	@scripts/demo $(PROGRAM) examples/soil-bucket
+	@scripts/demo $(PROGRAM) examples/rainfall-runoff
+	@scripts/demo $(PROGRAM) examples/flood-stage
+	@scripts/demo $(PROGRAM) examples/soil-moisture
 
 # The gate: every proof, must-fail edit, test and program, and then the project's own checks: of its definitions, of its
 # documents and of the built program.
