@@ -13,7 +13,8 @@ Three things are run, in README.md, docs/ and examples/README.md:
   `with TOOL..` at its end names the tools that it asks for.
 - a block ```maps: maps of a few cells, and what operations give of them (see docs/OPERATIONS.md);
 - a table with the columns `script` and `line`, or `text` and `first fault`, both between backticks: what the program
-  answers to a script, over the files of the first example.
+  answers to a script, over the files of the first example; and one with the columns `PCRaster` and `here`, of which
+  each statement `here` is to run over maps of four cells.
 """
 
 import os
@@ -191,12 +192,38 @@ def row(report, folder, place, script, line):
         report.fail(place, f"{script} gave {printed!r}")
 
 
+# What the lines of the table in docs/FROM-PCRASTER.md speak of.
+PRELUDE = {"A": ("a.asc", "", "1 2 / 3 4"), "B": ("b.asc", "", "4 3 / 2 1"), "C": ("c.asc", "boolean", "1 0 / 1 1"),
+           "N": ("n.asc", "nominal", "1 1 / 2 2"), "Ldd": ("ldd.asc", "ldd", "6 2 / 6 5")}
+FILES = {"t.tbl": "1 10\n2 20\n", "r.tss": "1 5 6\n2 7 8\n"}
+
+
+def statement(report, folder, place, text):
+    """Runs a statement, in `initial` or, where it speaks of time, in `dynamic`."""
+    folder.fresh()
+    bindings = ["T = t.tbl;", "R = r.tss;", "P = rain;"]
+    for name, (file, kind, cells) in PRELUDE.items():
+        (folder.here / file).write_text(grid(cells))
+        bindings.append(f"{name} = {file}{' : ' + kind if kind else ''};")
+    for file, contents in {**FILES, "rain0000.001": grid("1 2 / 3 4"), "rain0000.002": grid("5 6 / 7 8")}.items():
+        (folder.here / file).write_text(contents)
+    section = "timer 1 2 1; dynamic" if "time" in text else "initial"
+    (folder.here / "m.mod").write_text(f"binding {' '.join(bindings)} areamap A; {section} {text};")
+    printed, _ = folder.run("dusterindigo plain m.mod")
+    if printed.startswith("done "):
+        report.passed += 1
+    else:
+        report.fail(place, f"{text} gave {printed!r}")
+
+
 def rows(report, folder, page):
     for head, number, cells in tables(page):
         place = f"{page.relative_to(ROOT)}:{number}"
         quoted = [re.fullmatch(r"`` ?(.*?) ?``|`([^`]*)`.*", cell) for cell in cells]
         if head[:2] == ["script", "line"] and quoted[0] and quoted[1]:
             row(report, folder, place, quoted[0].group(1) or quoted[0].group(2), quoted[1].group(2))
+        elif head[:2] == ["PCRaster", "here"] and quoted[1]:
+            statement(report, folder, place, quoted[1].group(2))
         elif head[:2] == ["text", "first fault"] and quoted[0]:
             found = re.match(r"(\d+:\d+) `([\w-]+)`", cells[1])
             row(report, folder, place, quoted[0].group(1) or quoted[0].group(2), f"script {found.group(1)} {found.group(2)}")
