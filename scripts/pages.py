@@ -96,6 +96,10 @@ class Folder:
                               stdin=subprocess.DEVNULL, stdout=subprocess.PIPE, stderr=subprocess.STDOUT)
         return done.stdout.decode("utf-8", "replace"), done.returncode
 
+    def has(self, tool):
+        """Whether there is a command of this name, or a package of Python."""
+        return shutil.which(tool, path=self.environment["PATH"]) is not None or self.run(f"python3 -c 'import {tool}'")[1] == 0
+
     def remove(self):
         shutil.rmtree(self.top, ignore_errors=True)
 
@@ -242,7 +246,7 @@ def page_blocks(report, folder, page, with_tools):
             report.fail(place, "no comment says where the block is run")
             continue
         tools = re.split(r"[ ,]+", where.group("tools")) if where.group("tools") else []
-        missing = [tool for tool in tools if shutil.which(tool, path=folder.environment["PATH"]) is None]
+        missing = [tool for tool in tools if not folder.has(tool)]
         if not where.group("on"):
             lost = None
         if where.group("not") or not with_tools and tools:
