@@ -12,9 +12,18 @@ libraries := $(shell scripts/below $(name))
 named_by   = $(filter $(libraries),$(shell sed -n 's/^$(1)[^:]*: *//p' crates.txt))
 sources   := crates.txt $(shell find $(libraries:%=crates/%) crates/$(name) -name out -prune -o \( -name '*.rt' -o -name '*.antt' \) -print)
 
-.PHONY: build demo test bench install $(libraries:%=proved-%)
+.PHONY: build help demo test pages bench install $(libraries:%=proved-%)
 
 build: $(PROGRAM)
+
+help:
+	@echo 'make            prove the libraries, and link the program: $(PROGRAM)'
+	@echo 'make demo       run the examples, and show what they read and write'
+	@echo 'make test       the gate: all proofs, wrong bodies and tests, then the checks of documents and of the program'
+	@echo 'make pages      run all that the pages show, commands of other tools too where they are there'
+	@echo 'make bench      time the program beside stock Rust, and write docs/PERFORMANCE.md'
+	@echo 'make install    install what was built below PREFIX ($(PREFIX)), with its man page'
+	@echo 'Users begin with docs/TUTORIAL.md, maintainers with CONTRIBUTING.md.'
 
 # Proves the libraries, side by side where they do not stand on each other, and then the program, and links it. What
 # has not changed is not proved again. (`rt run` runs it once, without words, which prints `usage`.)
@@ -49,7 +58,12 @@ test:
 	@scripts/check-names
 	@scripts/believed --check
 	@scripts/check-claims
+	@scripts/check-where
 	@scripts/check-program $(PROGRAM)
+
+# Runs all that the pages show, commands of other tools too, and says what was passed over. No part of the gate.
+pages: $(PROGRAM)
+	@scripts/check-pages $(PROGRAM)
 
 # Times the program beside a small one in stock Rust, and writes docs/PERFORMANCE.md. No part of the gate.
 bench: $(PROGRAM)
@@ -60,3 +74,4 @@ bench: $(PROGRAM)
 install:
 	@$(MAKE) --no-print-directory -q $(PROGRAM) || { echo 'the program is not there or older than its sources: run make build first' >&2; exit 1; }
 	install -D -m 755 $(PROGRAM) $(DESTDIR)$(PREFIX)/bin/$(name)
+	install -D -m 644 docs/man/$(name).1 $(DESTDIR)$(PREFIX)/share/man/man1/$(name).1
