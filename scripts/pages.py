@@ -7,7 +7,7 @@
 Three things are run, in README.md, docs/ and examples/README.md:
 
 - a block ```console: lines behind `$ ` (and `> `, where a command goes on) are given to bash, and the lines up to the
-  next `$ ` are what it prints, on standard output and on standard error; a line `...` stands for any lines. A comment
+  next `$ ` are what it prints, on standard output and on standard error; a line `...` stands for any lines, and ` ..` at the end of one for its rest. A comment
   in the line before says where: `<!-- run in examples/NAME -->` in a new copy of the folder, without the files that
   say what comes; `<!-- run in an empty folder -->`; `<!-- run on -->` where the block before left off; `<!-- not run -->`.
   `with TOOL..` at its end names the tools that it asks for.
@@ -118,8 +118,11 @@ def commands(lines):
 
 
 def prints(wanted, printed):
-    """Whether lines are those wanted, of which `...` stands for any."""
-    pattern = "".join(r"(?:.*\n)*" if line == "..." else re.escape(line) + r"\n" for line in wanted)
+    """Whether lines are those wanted, of which `...` stands for any, and ` ..` at a line's end for its rest."""
+    pattern = ""
+    for line in wanted:
+        rest = line.endswith(" ..")
+        pattern += r"(?:.*\n)*" if line == "..." else re.escape(line[:-3] if rest else line) + (r" .*\n" if rest else r"\n")
     return re.fullmatch(pattern, printed if not printed or printed.endswith("\n") else printed + "\n") is not None
 
 
@@ -173,7 +176,7 @@ def maps(report, folder, place, lines):
         (folder.here / "m.mod").write_text(f"binding {' '.join(bindings)} areamap {first}; {section} report result = {formula};")
         printed, _ = folder.run("dusterindigo plain m.mod")
         if cells.startswith("overflow"):
-            good = re.fullmatch(rf"overflow step \d+ statement 1 operation \d+ {cells[9:]}\n", printed)
+            good = re.fullmatch(rf"overflow step \d+ statement 1 operation \d+ row {cells.split()[2]} col {cells.split()[3]}\n", printed)
         else:
             files = [f"result00.{step:03}" for step in range(1, len(steps) + 1)] if in_time else ["result"]
             good = printed.startswith("done") and all((folder.here / file).read_text() == grid(one) for file, one in zip(files, steps))
