@@ -241,7 +241,7 @@ class Meaning:
             if not good or not keys:
                 raise Wrong("kind-mismatch")
             places = [None] + [ALL_BUT_DRAINS if word in LOOKUPS else CLASSES] * (len(operands) - 1)
-            return self.fit(word, operands, places, (LOOKUPS | SERIES)[word])
+            return self.fit(word, operands, places, {**LOOKUPS, **SERIES}[word])
         if word == "timeinput":
             if whats != ["stack"]:
                 raise Wrong("kind-mismatch")
