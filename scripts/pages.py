@@ -250,16 +250,15 @@ def page_blocks(report, folder, page, with_tools):
             continue
         tools = re.split(r"[ ,]+", where.group("tools")) if where.group("tools") else []
         missing = [tool for tool in tools if not folder.has(tool)]
-        if not where.group("on"):
-            lost = None
-        if where.group("not") or not with_tools and tools:
-            lost = "" if not where.group("not") else lost
+        if where.group("not"):
             continue
-        if missing:
-            lost = f"there is no {', '.join(missing)} here"
-        if lost is not None:
-            if lost:
-                report.pass_over(place, lost)
+        why = "" if tools and not with_tools else f"there is no {', '.join(missing)} here" if missing else None
+        if not where.group("on"):
+            lost = why  # blocks that go on in a folder that was not begun are passed over with it
+        why = why if lost is None else lost
+        if why:
+            report.pass_over(place, why)
+        if why is not None:
             continue
         if not where.group("on"):
             folder.fresh(None if where.group("folder") == "an empty folder" else where.group("folder"))
