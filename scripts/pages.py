@@ -4,7 +4,7 @@
     pages.py program PROGRAM     all that asks for no tool but the program and the shell's own
     pages.py tools PROGRAM       all, and says what it passed over because a tool is not here
 
-Three things are run, in README.md, docs/ and examples/README.md:
+Links to files and headings of the project lead somewhere. Three things are run, in README.md, docs/ and examples/README.md:
 
 - a block ```console: lines behind `$ ` (and `> `, where a command goes on) are given to bash, and the lines up to the
   next `$ ` are what it prints, on standard output and on standard error; a line `...` stands for any lines, and ` ..` at the end of one for its rest. A comment
@@ -141,6 +141,31 @@ def console(report, folder, place, lines):
             report.fail(place, f"`{command}` printed {printed!r}")
 
 
+# ---- links
+
+def anchors(page):
+    """The anchors of a page's headings, as the hosts of repositories make them."""
+    found = {}
+    for heading in re.findall(r"^#+ (.*)$", page.read_text(encoding="utf-8"), re.M):
+        anchor = re.sub(r"[^\w\- ]", "", heading.lower()).replace(" ", "-")
+        found[anchor] = found.get(anchor, -1) + 1
+        if found[anchor]:
+            found[f"{anchor}-{found[anchor]}"] = 0
+    return set(found)
+
+
+def links(report, page):
+    for number, line in enumerate(page.read_text(encoding="utf-8").split("\n"), 1):
+        for target, anchor in re.findall(r"\]\(([^)#:]*)(?:#([^)]*))?\)", line):
+            path = page.parent / target if target else page
+            if not path.exists():
+                report.fail(f"{page.relative_to(ROOT)}:{number}", f"there is no {target}")
+            elif anchor and anchor not in anchors(path):
+                report.fail(f"{page.relative_to(ROOT)}:{number}", f"{target or 'the page'} has no heading {anchor}")
+            else:
+                report.passed += 1
+
+
 # ---- blocks of maps
 
 def grid(text):
@@ -269,6 +294,8 @@ def main():
     mode, program = sys.argv[1], sys.argv[2]
     report, folder = Report(), Folder(program)
     try:
+        for page in [*PAGES, ROOT / "CONTRIBUTING.md", *sorted(ROOT.glob("crates/*/README.md"))]:
+            links(report, page)
         for page in PAGES:
             page_blocks(report, folder, page, mode == "tools")
             rows(report, folder, page)
