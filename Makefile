@@ -59,6 +59,7 @@ test:
 	@scripts/believed --check
 	@scripts/check-claims
 	@scripts/check-where
+	@scripts/examples-in-tests --check
 	@scripts/check-program $(PROGRAM)
 
 # Runs all that the pages show, commands of other tools too, and says what was passed over. No part of the gate.
