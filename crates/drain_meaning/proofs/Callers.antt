@@ -5,7 +5,7 @@ pub use Rattle.drain_meaning.proofs.MapLemmas.{cases_directed, directed_within, 
 -- paths and the ways along them
 pub use Rattle.drain_meaning.proofs.PathLemmas.{no_cycle, one_path, path_down, path_leaves, path_of_pit, path_short, path_up, way_back, way_from, way_step}
 -- the ends of a transport on a sound map
-pub use Rattle.drain_meaning.proofs.EndLemmas.{drains_tells, ends_meet, ends_unique, tributary_drains}
+pub use Rattle.drain_meaning.proofs.EndLemmas.{drains_tells, ends_meet, ends_unique, outcomes_alike, tributary_drains}
 -- the part of a map that a mask keeps
 pub use Rattle.drain_meaning.proofs.MaskLemmas.{masked_drain}
 -- lists of places

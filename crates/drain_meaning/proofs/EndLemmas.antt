@@ -1,5 +1,5 @@
 -- The ends of a transport on a sound map.
-use Rattle.std.proofs.Common.{◌≡◌, ◌⊎◌, inl, inr, ℕ, ◌-◌, ◌<◌, ◌≤◌, List, [], ◌∷◌, length, refl, sym, ap, ◌∙◌, arith, suc, zero, false}
+use Rattle.std.proofs.Common.{◌≡◌, ◌⊎◌, inl, inr, ℕ, ◌-◌, ◌<◌, ◌≤◌, List, [], ◌∷◌, length, map, refl, sym, ap, ◌∙◌, arith, suc, zero, false}
 use Rattle.std.specs.List.{Contains, range_with_len}
 use Rattle.std.proofs.lemmas.Bool.Decides.{eqb_tells}
 use Rattle.cell_values.specs.declared.cell.Cell.{Cell}
@@ -9,9 +9,12 @@ use Rattle.drain_meaning.specs.declared.next.Next.{Next}
 use Rattle.drain_meaning.specs.declared.next.Next.TheVariants as next
 use Rattle.drain_meaning.specs.declared.op.Orient.{Orient}
 use Rattle.drain_meaning.specs.declared.op.Orient.TheVariants.{Down, Up}
-use Rattle.drain_meaning.specs.Drains.{DrainMap, next_at}
+use Rattle.cell_values.specs.declared.kind.Kind.{Kind}
+use Rattle.drain_meaning.specs.Drains.{DrainMap, IsDrainMap, next_at}
+use Rattle.drain_meaning.specs.Flows.{flow_outcome}
 use Rattle.drain_meaning.specs.Paths.{IsDirected, IsSound, path_of}
-use Rattle.drain_meaning.specs.Transports.{AreEnds, Transport, drains_into, end_after, end_of, feeders, outlet, tributaries}
+use Rattle.drain_meaning.specs.Transports.{AreEnds, Transport, drains_into, end_after, end_of, feeders, outlet, transport_outcome, tributaries, where_directed}
+use Rattle.drain_meaning.proofs.MapLemmas.{directed_within, next_inside}
 use Rattle.drain_meaning.proofs.PathLemmas.{next_directed, path_of-is, path_short}
 use Rattle.drain_meaning.proofs.SumLemmas.{contains_cases, kept_passes, map_alike}
 
@@ -108,3 +111,27 @@ unfolding end_of
 ends_unique t m a b ends sound are c directed =
     let few = steps_few t.orient m sound c directed in
     ends_agree t m a b ends sound are (length m.codes) c directed few.1
+
+-- ---- operands that are alike
+
+-- The cells that feed a cell are in the map.
+feeder_within : (o : Orient) (m : DrainMap) → IsDrainMap m → (c u : ℕ) → Contains (feeders o m c) u → u < length m.codes
+unfolding feeders
+feeder_within Down m is c u h = let e = tributary_drains m c u h in directed_within m u (λ k. cc (k, e))
+feeder_within Up m is c u h = next_inside m is c u (outlet_is (next_at m c) u h)
+
+-- Operands that the equation takes alike in each cell of the map give the same ends.
+pub ends_alike : (t : Transport) (m : DrainMap) (a b x y : ℕ → Cell) → IsDrainMap m → ((inflows : List Flow) (c : ℕ) → c < length m.codes → t.equation inflows (a c) (b c) ≡ t.equation inflows (x c) (y c)) →
+    (steps c : ℕ) → c < length m.codes → end_after t m a b steps c ≡ end_after t m x y steps c
+ends_alike t m a b x y is alike zero c within = refl
+ends_alike t m a b x y is alike (suc steps) c within =
+    ap (λ (flows : List Flow). t.equation flows (a c) (b c)) (map_alike (λ u. (end_after t m a b steps u).out) (λ u. (end_after t m x y steps u).out) (feeders t.orient m c) (λ u h.
+    ap (λ (e : FlowEnd). e.out) (ends_alike t m a b x y is alike steps u (feeder_within t.orient m is c u h))))
+    ∙ alike (map (λ u. (end_after t m x y steps u).out) (feeders t.orient m c)) c within
+
+-- So they give the same outcomes.
+pub outcomes_alike : (t : Transport) (kind : Kind) (m : DrainMap) (a b x y : ℕ → Cell) → IsDrainMap m → ((inflows : List Flow) (c : ℕ) → c < length m.codes → t.equation inflows (a c) (b c) ≡ t.equation inflows (x c) (y c)) →
+    (c : ℕ) → c < length m.codes → transport_outcome t kind m a b c ≡ transport_outcome t kind m x y c
+unfolding end_of
+outcomes_alike t kind m a b x y is alike c within =
+    ap (λ (e : FlowEnd). flow_outcome kind (where_directed (next_at m c) e.result)) (ends_alike t m a b x y is alike (length m.codes) c within)

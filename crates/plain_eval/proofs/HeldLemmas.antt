@@ -1,39 +1,48 @@
 -- The maps that are held: those that are read later are there.
-use Rattle.std.proofs.Common.{◌≡◌, ℕ, zero, suc, ◌+◌, ◌*◌, ◌<◌, ◌≤◌, true, false, cond, ◌&&◌, nat_eq, nat_lt, List, [], ◌∷◌, ◌++◌, length, get_or, drop, map, refl, sym, ap, subst, ◌∙◌, inl, inr, arith}
-use Rattle.std.specs.Prelude.{None, Some, Option, All, option_map, slice_get, ◌==◌}
+use Rattle.std.proofs.Common.{◌≡◌, ℕ, zero, suc, ◌+◌, ◌*◌, ◌<◌, ◌≤◌, ◌-◌, Bool, true, false, cond, ◌&&◌, ◌||◌, ◌⊎◌, nat_eq, nat_lt, List, [], ◌∷◌, ◌++◌, length, get_or, drop, map, refl, sym, ap, subst, ◌∙◌, inl, inr, arith, append_assoc, length-append}
+use Rattle.std.specs.Prelude.{None, Some, Option, All, IfSome, max, nat_le, option_map, slice_get, slice_range, ◌==◌}
 use Rattle.std.specs.List.{list_any}
-use Rattle.std.proofs.lemmas.Bool.{cases_eq, cases_order, eq-eqb, le-ltb, lt-ltb, ne_eqb, or_left, or_right}
-use Rattle.std.proofs.lemmas.List.{drop_more, get_or_append_left, get_or_past, get_or_push, length-map, length_push}
-use Rattle.std.proofs.lemmas.Option.{slice_get_within}
+use Rattle.std.proofs.lemmas.Bool.{cases_eq, cases_lt, cases_order, eq-eqb, le-ltb, lt-ltb, ne_eqb, or_left, or_right}
+use Rattle.std.proofs.lemmas.List.{drop_more, get_or-append_right, get_or-drop, get_or-take, get_or_append_left, get_or_past, get_or_push, length-map, length_push}
+use Rattle.std.proofs.lemmas.Option.{get_or_from_slice_get, slice_get_within}
+use Rattle.std.proofs.lemmas.Int.{ints}
+use Rattle.cell_values.specs.declared.cell.Cell.{Cell}
 use Rattle.cell_values.specs.declared.kind.Kind.{Kind}
 use Rattle.cell_values.specs.declared.kind.Kind.TheVariants as kinds
+use Rattle.cell_values.specs.Kinds.{IsCell}
+use Rattle.tile_map.specs.Cuts.{cell_at}
+use Rattle.tile_map.specs.Parts.{tabulate}
 use Rattle.map_meaning.specs.declared.known.Known.{Known}
 use Rattle.map_meaning.specs.declared.known.Span.{Span}
 use Rattle.map_meaning.specs.declared.known.Span.TheVariants as span
 use Rattle.map_meaning.specs.declared.known.StepMap.{StepMap}
+use Rattle.map_meaning.specs.declared.program.DrainUse.{DrainUse}
 use Rattle.map_meaning.specs.declared.program.InputUse.{InputUse}
 use Rattle.map_meaning.specs.declared.program.Operand.{Operand}
-use Rattle.map_meaning.specs.declared.program.Operand.TheVariants.{Unused, Literal, Time, Input, Initial, Now, Last}
+use Rattle.map_meaning.specs.declared.program.Operand.TheVariants.{Unused, Literal, Time, Input, Initial, Now, Last, Drain}
 use Rattle.map_meaning.specs.declared.program.Operand.TheVariants as from
 use Rattle.map_meaning.specs.declared.program.Operation.{Operation}
 use Rattle.map_meaning.specs.declared.program.Program.{Program}
 use Rattle.map_meaning.specs.declared.program.Role.{Role}
 use Rattle.map_meaning.specs.declared.program.Role.TheVariants.{Grid, Stack, Table, Series}
-use Rattle.map_meaning.specs.Evaluation.{section_maps, with_map}
-use Rattle.map_meaning.specs.Limits.{most_inputs}
-use Rattle.map_meaning.specs.Maps.{IsMapOf, WholeMap, nth}
-use Rattle.map_meaning.specs.Programs.{IsBelow, IsFileOf, IsInput, IsOperation, IsOperationOf, IsStepOperation, IsWellFormed}
-use Rattle.map_meaning.specs.Programs.{file_role, is_grid_role, is_initial, is_last, is_read_in_steps, is_series_role, is_table_role, kinds_of}
+use Rattle.map_meaning.specs.Evaluation.{Done, operand_cell, operation_part, section_maps, with_map}
+use Rattle.map_meaning.specs.Limits.{most_inputs, most_steps}
+use Rattle.map_meaning.specs.Maps.{CellAt, IsMapOf, WholeMap, nth, step_cell}
+use Rattle.map_meaning.specs.Programs.{AreOneName, IsBelow, IsDrainUse, IsDueBy, IsFileOf, IsInput, IsOperation, IsOperationOf, IsStepOperation, IsWellFormed}
+use Rattle.map_meaning.specs.Programs.{file_role, is_carried, is_grid_role, is_initial, is_kept_map, is_last, is_mask, is_read_in_steps, is_read_later, is_series_role, is_table_role, is_written, kinds_of, operand_kind, operation_kind, stage_begin}
 use Rattle.map_meaning.specs.Rules.{no_series, no_table}
-use Rattle.map_meaning.specs.Spans.{AreAscending, HasSeriesKind, IsSpan, IsTableOf, KnowsBefore, Knows, kept_map}
-use Rattle.map_meaning.proofs.WholeMaps.{IsReadNow, input_item, input_there, operation_of, read_now, step_operation_of, there}
+use Rattle.map_meaning.specs.Scenes.{Scene, map_at_step, place_count}
+use Rattle.map_meaning.specs.Spans.{AreAscending, AreSteps, HasDrains, HasSeriesKind, IsInStage, IsSpan, IsTableOf, Knows, first_operation, kept_map, known_codes, scene_of, span_operations}
+use Rattle.map_meaning.specs.Table.{goes_along_drains}
+use Rattle.map_meaning.proofs.WholeMaps.{IsReadFirst, IsReadNow, cell_in, codes_known, drain_use_of, input_item, input_there, map_whole, operation_of, read_first, read_now, scene_inputs, stage_length, step_operation_of, there}
+use Rattle.map_meaning.proofs.Tabulated.{nth_tabulate, tabulate_count}
 use Rattle.plain_eval.specs.inside.Finished.{LetsGo}
-use Rattle.plain_eval.specs.inside.Held.{AreThere, HasFile, HasGrid, HasItsKind, HasKept, HasSeries, HasTable, IsHeld, IsOneOf, IsThereAtStep, IsThereInitially, done_of, held_at, or_empty}
-use Rattle.plain_eval.specs.inside.Readers.{AreLastReaders, NamesBelow, ReadsBelow, reads}
-use Rattle.plain_eval.specs.inside.Sections.{is_own, own_operations}
+use Rattle.plain_eval.specs.inside.Held.{AreThere, HasDrainMap, HasFile, HasGrid, HasItsCells, HasKept, HasSeries, HasTable, IsHeld, IsOneOf, IsSound, IsThereAtStep, IsThereInitially, done_of, held_at, initial_done, or_empty, step_done}
+use Rattle.plain_eval.specs.inside.Readers.{AreLastReaders, IsNumberBelow, NamesBelow, ReadsBelow, reads}
+use Rattle.plain_eval.specs.inside.Sections.{is_own, scene_in, step_of}
 use Rattle.plain_eval.proofs.InputLemmas.{at_place}
 use Rattle.plain_eval.proofs.ReaderLemmas.{read_later}
-use Rattle.plain_eval.proofs.Stages.{SameOutside, SameRead, own_map}
+use Rattle.plain_eval.proofs.Stages.{SameOutside, SameRead, own_number_from}
 
 -- ---- operations of a program
 
@@ -43,11 +52,17 @@ item_there [] n d below = absurd (omega arith)
 item_there (x ∷ xs) zero d below = refl
 item_there (x ∷ xs) (suc n) d below = item_there xs n d (omega arith)
 
+-- an operation of a range of a list stands there in the list
+staged : (xs : List Operation) (first end n : ℕ) (d : Operation) → n < end - first → get_or (slice_range xs first end) n d ≡ get_or xs (first + n) d
+staged xs first end n d below = get_or-take (end - first) (drop first xs) n d below ∙ get_or-drop first xs n d
+
 -- the operation with a number is one of `initial`
-initial_operation : (program : Program) (n : ℕ) (d : Operation) → IsWellFormed program → n < length program.initial → IsOperation program n (get_or program.initial n d)
+initial_operation : (program : Program) (n : ℕ) (d : Operation) → IsWellFormed program → n < length program.initial → IsOperationOf program (IsReadFirst program n) (get_or program.initial n d).kept (get_or program.initial n d)
 initial_operation program n d formed below =
+    let o = get_or program.initial n d in
+    let here = item_there program.initial n d below in
     let same : 0 + n ≡ n = omega arith in
-    subst (λ k. IsOperation program k (get_or program.initial n d)) same (operation_of program 0 n program.initial (get_or program.initial n d) formed.operations (item_there program.initial n d below))
+    read_first program n o here (subst (λ k. IsOperation program k o) same (operation_of program 0 n program.initial o formed.operations here))
 
 -- the operation with a number is one of `dynamic`
 step_operation : (program : Program) (n : ℕ) (d : Operation) → IsWellFormed program → n < length program.dynamic → IsOperationOf program (IsReadNow program n) (get_or program.dynamic n d).kept (get_or program.dynamic n d)
@@ -57,16 +72,28 @@ step_operation program n d formed below =
     let same : 0 + n ≡ n = omega arith in
     read_now program n o here (subst (λ k. IsStepOperation program k o) same (step_operation_of program 0 n program.dynamic o formed.step_operations here))
 
--- an operand of `initial` names no operation from the operation's own number on
-initial_below : (program : Program) (first end n m : ℕ) (operand : Operand) → n ≤ m → IsBelow program n operand → NamesBelow (span.Initial first end) m operand
+-- a stage has operations as its numbers say
+stage_within : (program : Program) (first end n : ℕ) → IsInStage program first end → n < length (slice_range program.initial first end) → (n < end - first) × (first + n < end) × (first + n < length program.initial)
+stage_within program first end n is within =
+    let size = stage_length program.initial first end is.order is.there in
+    let there = is.there in
+    (omega arith, omega arith, omega arith)
+
+-- an operand of `initial` names no operation of the stage from the operation's own number on
+initial_below : (program : Program) (first end n m : ℕ) (operand : Operand) → n ≤ m → IsBelow program (first + n) operand → NamesBelow (span.Initial first end) m operand
 initial_below program first end n m Unused few below = tt
 initial_below program first end n m (Literal kind cell) few below = tt
 initial_below program first end n m Time few below = absurd below
 initial_below program first end n m (Input k) few below = tt
 initial_below program first end n m (from.Stack k) few below = absurd below
-initial_below program first end n m (Initial k) few below = let less : k < n = below in omega arith
+initial_below program first end n m (Initial k) few below = by_test (nat_le first k) refl
+  where
+    by_test : (b : Bool) → nat_le first k ≡ b → IsNumberBelow m (cond b (Some (k - first)) None)
+    by_test true is = let behind : first ≤ k = grind (arith, is) in let less : k < first + n = below in omega arith
+    by_test false is = tt
 initial_below program first end n m (Now k) few below = absurd below
 initial_below program first end n m (Last k i) few below = absurd below
+initial_below program first end n m (Drain k) few below = tt
 
 -- nor does one of `dynamic`
 step_below : (program : Program) (first last n m : ℕ) (operand : Operand) → n ≤ m → IsReadNow program n operand → NamesBelow (span.Steps first last) m operand
@@ -78,28 +105,112 @@ step_below program first last n m (from.Stack k) few read = tt
 step_below program first last n m (Initial k) few read = tt
 step_below program first last n m (Now k) few read = let less : k < n = read.below in omega arith
 step_below program first last n m (Last k i) few read = tt
+step_below program first last n m (Drain k) few read = tt
 
 -- no operand of an operation does
-pub reads_below : (program : Program) (s : Span) (n m : ℕ) (d : Operation) → IsWellFormed program → n < length (own_operations program s) → n ≤ m → ReadsBelow s m (get_or (own_operations program s) n d)
-reads_below program (span.Initial first end) n m d formed within few =
-    let is = initial_operation program n d formed within in
-    let o = get_or program.initial n d in
-    record { a = initial_below program first end n m o.a few is.a; b = initial_below program first end n m o.b few is.b; c = initial_below program first end n m o.c few is.c; d = initial_below program first end n m o.d few is.d }
-reads_below program (span.Steps first last) n m d formed within few =
+pub reads_below : (program : Program) (s : Span) (n m : ℕ) (d : Operation) → IsWellFormed program → IsSpan program s 1 → n < length (span_operations program s) → n ≤ m → ReadsBelow s m (get_or (span_operations program s) n d)
+reads_below program (span.Initial first end) n m d formed is_span within few =
+    let at = stage_within program first end n is_span within in
+    let is = initial_operation program (first + n) d formed at.2 in
+    let o = get_or program.initial (first + n) d in
+    let P : Operation → Type 0 = λ x. ReadsBelow (span.Initial first end) m x in
+    subst P (sym (staged program.initial first end n d at.0))
+    (record { a = initial_below program first end n m o.a few is.a.below; b = initial_below program first end n m o.b few is.b.below; c = initial_below program first end n m o.c few is.c.below; d = initial_below program first end n m o.d few is.d.below })
+reads_below program (span.Steps first last) n m d formed is_span within few =
     let is = step_operation program n d formed within in
     let o = get_or program.dynamic n d in
     record { a = step_below program first last n m o.a few is.a; b = step_below program first last n m o.b few is.b; c = step_below program first last n m o.c few is.c; d = step_below program first last n m o.d few is.d }
 
--- each operation reads maps of operations of the section
-pub all_read_below : (program : Program) (s : Span) → IsWellFormed program → All (ReadsBelow s (length (own_operations program s))) (own_operations program s)
-all_read_below program s formed = λ k d below. reads_below program s k (length (own_operations program s)) d formed below (omega arith)
+-- each operation reads maps of operations of the span
+pub all_read_below : (program : Program) (s : Span) → IsWellFormed program → IsSpan program s 1 → All (ReadsBelow s (length (span_operations program s))) (span_operations program s)
+all_read_below program s formed is_span = λ k d below. reads_below program s k (length (span_operations program s)) d formed is_span below (omega arith)
 
 -- there are not too many
-pub few_operations : (program : Program) (s : Span) → IsWellFormed program → length (own_operations program s) ≤ 8192
-few_operations program (span.Initial first end) formed = formed.few_operations
-few_operations program (span.Steps first last) formed = formed.few_step_operations
+pub few_operations : (program : Program) (s : Span) → IsWellFormed program → IsSpan program s 1 → first_operation s + length (span_operations program s) ≤ 8192
+few_operations program (span.Initial first end) formed is =
+    let size = stage_length program.initial first end is.order is.there in
+    let there = is.there in
+    let few = formed.few_operations in
+    omega arith
+few_operations program (span.Steps first last) formed is = let few = formed.few_step_operations in omega arith
 
 -- ---- what an operation reads is there
+
+-- it is a whole map of the kind
+abbrev pub IsWhole : ℕ → Kind → Option WholeMap → Type 0
+IsWhole places kind None = ⊥
+IsWhole places kind (Some m) = IsMapOf places kind m
+
+-- the maps of operations of a span that are read from the operation n on are held, whole
+abbrev pub AreWhole : ℕ → List Operation → List ℕ → ℕ → List (Option WholeMap) → Type 0
+AreWhole places operations last n held = (k : ℕ) (o : Operation) → slice_get operations k ≡ Some o → k < n → n ≤ get_or last k 0 → IsWhole places o.kind (held_at held k)
+
+-- such a map has all its cells
+held_whole : (places : ℕ) (kind : Kind) (m : Option WholeMap) → IsWhole places kind m → IsHeld places m
+held_whole places kind None is = is
+held_whole places kind (Some m) is = is.count
+
+-- and is there
+map_there : (places : ℕ) (kind : Kind) (m : Option WholeMap) → IsWhole places kind m → IsMapOf places kind (or_empty m)
+map_there places kind None is = absurd is
+map_there places kind (Some m) is = is
+
+-- the map with a number, among those that are held
+nth_held : (held : List (Option WholeMap)) (k : ℕ) → nth (map or_empty held) k ≡ or_empty (held_at held k)
+nth_held [] k = refl
+nth_held (x ∷ held) zero = refl
+nth_held (x ∷ held) (suc k) = nth_held held k
+
+-- an operand whose map is whole has its cells
+map_cells : (program : Program) (scene : Scene) (done : Done) (operand : Operand) (m : WholeMap) (found : Kind) → operand_kind program operand ≡ Some found → operand_cell scene done operand ≡ cell_at m → IsMapOf (place_count scene) found m → HasItsCells program scene done operand
+map_cells program scene done operand m found named is whole = record {
+  kind = λ used. (found, named);
+  cells = λ place kind asked below.
+      let same : found ≡ kind = (let both : Some found ≡ Some kind = sym named ∙ asked in cc) in
+      subst (λ k. IsCell k (operand_cell scene done operand place)) same (subst (λ (f : CellAt). IsCell found (f place)) (sym is) (cell_in (place_count scene) place found m whole below));
+}
+
+-- one that is not used has none
+unused_cells : (program : Program) (scene : Scene) (done : Done) → HasItsCells program scene done Unused
+unused_cells program scene done = record { kind = λ used. absurd (cc); cells = λ place kind asked below. absurd (cc) }
+
+-- a literal has its own
+literal_cells : (program : Program) (scene : Scene) (done : Done) (kind : Kind) (cell : Cell) → IsCell kind cell → HasItsCells program scene done (Literal kind cell)
+literal_cells program scene done kind cell is = record { kind = λ used. (kind, refl); cells = λ place k asked below. (let same : kind ≡ k = cc in subst (λ j. IsCell j cell) same is) }
+
+-- the step is a scalar
+time_cells : (program : Program) (scene : Scene) (done : Done) → scene.step ≤ most_steps → HasItsCells program scene done Time
+time_cells program scene done few = record {
+  kind = λ used. (kinds.Scalar, refl);
+  cells = λ place k asked below. (let same : kinds.Scalar ≡ k = cc in subst (λ j. IsCell j (step_cell scene.step)) same (record { least = omega (arith, ints, few); greatest = omega (arith, ints, few) }));
+}
+
+-- two tests that both hold
+both : (a b : Bool) → a ≡ true → b ≡ true → (a && b) ≡ true
+both true b first second = second
+both false b first second = absurd (cc)
+
+-- a later stage begins no earlier
+begins_later : (drains : List DrainUse) (m n : ℕ) → m ≤ n → stage_begin drains m ≤ stage_begin drains n
+begins_later [] m n order = omega arith
+begins_later (d ∷ ds) m n order = by_tests (nat_le d.after m) (nat_le d.after n) refl refl (begins_later ds m n order)
+  where
+    by_tests : (a b : Bool) → nat_le d.after m ≡ a → nat_le d.after n ≡ b → stage_begin ds m ≤ stage_begin ds n → cond a (max d.after (stage_begin ds m)) (stage_begin ds m) ≤ cond b (max d.after (stage_begin ds n)) (stage_begin ds n)
+    by_tests true true before now rest = grind arith
+    by_tests true false before now rest = grind arith
+    by_tests false true before now rest = grind arith
+    by_tests false false before now rest = rest
+
+-- an operation is kept that a step or a later stage reads
+kept_by_steps : (a b c d : Bool) → a ≡ true → (a || b || c || d) ≡ true
+kept_by_steps true b c d h = refl
+kept_by_steps false b c d h = absurd (cc)
+
+kept_by_stages : (a b c d : Bool) → d ≡ true → (a || b || c || d) ≡ true
+kept_by_stages true b c d h = refl
+kept_by_stages false true c d h = refl
+kept_by_stages false false true d h = refl
+kept_by_stages false false false d h = h
 
 module _ (program : Program) (s : Span) (known : Known) (formed : IsWellFormed program) (knows : Knows program s known) where
   abbrev places : ℕ
@@ -148,53 +259,196 @@ module _ (program : Program) (s : Span) (known : Known) (formed : IsWellFormed p
   file_there (Some Series) kind n is = series_there n is.input
 
   -- a kept map
-  kept_there : (operations : List Operation) (maps : List StepMap) (k : ℕ) (o : Operation) → slice_get operations k ≡ Some o → IsMapOf places o.kind (kept_map maps k) → AreAscending maps → HasKept places maps (length operations) k
-  kept_there operations maps k o is whole order = record { within = slice_get_within operations k o is; order = order; some = (let size : length (kept_map maps k) ≡ places = whole.count in omega (arith, some_places)); size = whole.count }
+  kept_there : (maps : List StepMap) (count k : ℕ) (kind : Kind) → k < count → IsMapOf places kind (kept_map maps k) → AreAscending maps → HasKept places maps count k
+  kept_there maps count k kind within whole order = record { within = within; order = order; some = (let size : length (kept_map maps k) ≡ places = whole.count in omega (arith, some_places)); size = whole.count }
 
-  -- the map of an operand of `initial`
-  initial_there : (n : ℕ) (held : List (Option WholeMap)) (operand : Operand) → IsBelow program n operand → length held ≡ n →
-      ((k : ℕ) → is_initial k operand ≡ true → k < n → IsHeld places (held_at held k)) → IsThereInitially program known held operand
-  initial_there n held Unused below count there = tt
-  initial_there n held (Literal kind cell) below count there = tt
-  initial_there n held Time below count there = absurd below
-  initial_there n held (Input k) below count there = grid_there k below
-  initial_there n held (from.Stack k) below count there = absurd below
-  initial_there n held (Initial k) below count there = let less : k < n = below in record { within = omega arith; is = there k (eq-eqb k k refl) below }
-  initial_there n held (Now k) below count there = absurd below
-  initial_there n held (Last k i) below count there = absurd below
+  -- an operation of `initial` is kept as its number says
+  kept_as : (k : ℕ) (o : Operation) → slice_get program.initial k ≡ Some o → o.kept ≡ is_kept_map program k
+  kept_as k o is =
+      let same : 0 + k ≡ k = omega arith in
+      let here : IsOperation program k o = subst (λ j. IsOperation program j o) same (operation_of program 0 k program.initial o formed.operations is) in
+      here.kept
 
-  -- ---- what a step reads
+  -- the grid of an input has its cells
+  grid_cells : (step : ℕ) (done : Done) (n : ℕ) → IsInput program Grid n → HasItsCells program (scene_of program.inputs known step) done (Input n)
+  grid_cells step done n is =
+      let found = input_there program Grid n is in
+      let scene = scene_of program.inputs known step in
+      map_cells program scene done (Input n) (nth scene.inputs n) found.0.kind (ap (option_map (λ (i : InputUse). i.kind)) found.1) refl
+      (input_item is_grid_role [] (λ input m. IsMapOf places input.kind m) program.inputs known.maps n found.0 knows.maps found.1 (ap is_grid_role found.2))
 
-  module _ (first last : ℕ) (some : 1 ≤ first) (order : first ≤ last) (before : KnowsBefore program first last known) where
-    -- an operation of `initial` that steps read
-    initial_kept : (k : ℕ) → k < length program.initial → is_read_in_steps program (is_initial k) ≡ true → HasKept places known.initial (length program.initial) k
-    initial_kept k within read =
-        let found = there program.initial k within in
-        let same : 0 + k ≡ k = omega arith in
-        let is : IsOperation program k found.0 = subst (λ j. IsOperation program j found.0) same (operation_of program 0 k program.initial found.0 formed.operations found.1) in
-        kept_there program.initial known.initial k found.0 found.1 (before.initial k found.0 found.1 (is.kept ∙ or_left (is_read_in_steps program (is_initial k)) _ read)) before.order
+  -- so has a drain map
+  drain_cells : (step : ℕ) (done : Done) (k count : ℕ) (d : DrainUse) → done.drains ≡ known_codes known → slice_get program.drains k ≡ Some d → d.after ≤ count → HasDrains program count known → HasItsCells program (scene_of program.inputs known step) done (Drain k)
+  drain_cells step done k count d is here due has =
+      map_cells program (scene_of program.inputs known step) done (Drain k) (nth (known_codes known) k) kinds.Ldd (ap (option_map (λ (d : DrainUse). kinds.Ldd)) here) (ap (λ maps. cell_at (nth maps k)) is)
+      (codes_known program count known has k d here due)
 
-    -- the map of an operand of `dynamic`
-    step_there : (n : ℕ) (held : List (Option WholeMap)) (operand : Operand) → IsReadNow program n operand → length held ≡ n →
-        ((k : ℕ) → is_own (span.Steps first last) k operand ≡ true → k < n → IsHeld places (held_at held k)) → IsThereAtStep program first known held operand
-    step_there n held Unused read count held_there = tt
-    step_there n held (Literal kind cell) read count held_there = tt
-    step_there n held Time read count held_there = tt
-    step_there n held (Input k) read count held_there = grid_there k read.below
-    step_there n held (from.Stack k) read count held_there =
-        let found = input_there program Stack k read.below in
-        (before.stacks k first found.0 found.1 found.2 (omega arith) order).count
-    step_there n held (Initial k) read count held_there = initial_kept k read.below (read.seen (is_initial k) (eq-eqb k k refl))
-    step_there n held (Now k) read count held_there = let less : k < n = read.below in record { within = omega arith; is = held_there k (eq-eqb k k refl) read.below }
-    step_there n held (Last k i) read count held_there = record {
-      begun = λ one. initial_kept i read.below.of_initial (read.seen (is_initial i) (eq-eqb i i refl));
-      carried = λ later.
-          let found = there program.dynamic k read.below.of_dynamic in
-          kept_there program.dynamic known.last k found.0 found.1 (before.carried (behind later) k found.0 found.1 (read.seen (is_last k) (eq-eqb k k refl))) before.carried_order;
-    }
-      where
-        behind : (first == 1) ≡ false → 1 < first
-        behind later = grind (arith, some)
+-- ---- what a stage of `initial` reads
+
+module _ (program : Program) (first end : ℕ) (known : Known) (formed : IsWellFormed program) (knows : Knows program (span.Initial first end) known) (is : IsInStage program first end) (n : ℕ) (to : first + n < end) (held : List (Option WholeMap)) (count : length held ≡ n) where
+  abbrev stage : Span
+  stage = span.Initial first end
+
+  abbrev first_done : Done
+  first_done = initial_done first known held
+
+  abbrev first_scene : Scene
+  first_scene = scene_of program.inputs known 0
+
+  -- an operation of an earlier stage that is read is kept
+  earlier_kept : (k : ℕ) (o : Operation) → slice_get program.initial k ≡ Some o → IsReadFirst program (first + n) (Initial k) → k < first → (o.kept && nat_lt k first) ≡ true
+  earlier_kept k o here read before =
+      let begins : first ≡ stage_begin program.drains first = is.begins in
+      let later = read.later k (eq-eqb k k refl) (omega (arith, begins, begins_later program.drains first (first + n) (omega arith))) in
+      both o.kept (nat_lt k first)
+      (kept_as program stage known formed knows k o here ∙ kept_by_stages (is_read_in_steps program (is_initial k)) (is_written program k) (is_mask program k) (is_read_later program k) later)
+      (lt-ltb k first before)
+
+  -- a drain map that is due is computed before the stage
+  due_before : (k : ℕ) (d : DrainUse) → slice_get program.drains k ≡ Some d → IsDueBy program (first + n) k → d.after ≤ first
+  due_before k d here due =
+      by_case (subst (λ (x : DrainUse). (x.after ≤ first) ⊎ (end ≤ x.after)) (get_or_from_slice_get program.drains k d d here) (is.whole k d (slice_get_within program.drains k d here)))
+    where
+      after : d.after ≤ first + n
+      after = let P : Option DrainUse → Type 0 = λ found. IfSome found (λ d. d.after ≤ first + n) in subst P here due.after
+
+      by_case : (d.after ≤ first) ⊎ (end ≤ d.after) → d.after ≤ first
+      by_case (inl before) = before
+      by_case (inr behind) = absurd (let a = after in omega (arith, a, behind, to))
+
+  -- the map of an operand is there, and has its cells
+  abbrev ReadFirst : Operand → Type 0
+  ReadFirst operand = IsThereInitially program first known held operand × HasItsCells program first_scene first_done operand
+
+  -- the maps that are held for it are whole
+  abbrev HeldFirst : Operand → Type 0
+  HeldFirst operand = (k : ℕ) (o : Operation) → is_own stage k operand ≡ true → k < n → slice_get program.initial (first + k) ≡ Some o → IsWhole (known.rows * known.cols) o.kind (held_at held k)
+
+  -- the map of an operation of an earlier stage
+  before_read : (k : ℕ) (o : Operation) → slice_get program.initial k ≡ Some o → IsReadFirst program (first + n) (Initial k) → k < first → ReadFirst (Initial k)
+  before_read k o here read before =
+      let whole = knows.outside.initial k o here (earlier_kept k o here read before) in
+      let front = tabulate (kept_map known.initial) first in (
+        record { before = λ less. kept_there program stage known formed knows known.initial first k o.kind less whole knows.outside.order; within = λ behind. absurd (omega (arith, before, behind)) },
+        map_cells program first_scene first_done (Initial k) (kept_map known.initial k) o.kind (ap (option_map (λ (o : Operation). o.kind)) here)
+            (ap cell_at (get_or_append_left front (map or_empty held) [] k (let size = tabulate_count (kept_map known.initial) first in omega (arith, size, before)) ∙ nth_tabulate (kept_map known.initial) first k before)) whole,
+      )
+
+  -- the map of an operation of the stage
+  within_read : (k : ℕ) (o : Operation) → slice_get program.initial k ≡ Some o → k < first + n → HeldFirst (Initial k) → first ≤ k → ReadFirst (Initial k)
+  within_read k o here below held_for behind =
+      let j = k - first in
+      let at : first + j ≡ k = omega arith in
+      let there : slice_get program.initial (first + j) ≡ Some o = ap (slice_get program.initial) at ∙ here in
+      let whole = held_for j o (own_number_from first k behind) (omega arith) there in
+      let front = tabulate (kept_map known.initial) first in (
+        record { before = λ less. absurd (omega (arith, less, behind)); within = λ past. record { within = omega arith; is = held_whole (known.rows * known.cols) o.kind (held_at held j) whole } },
+        map_cells program first_scene first_done (Initial k) (or_empty (held_at held j)) o.kind (ap (option_map (λ (o : Operation). o.kind)) here)
+            (ap cell_at (get_or-append_right front (map or_empty held) first k [] (tabulate_count (kept_map known.initial) first) behind ∙ nth_held held j)) (map_there (known.rows * known.cols) o.kind (held_at held j) whole),
+      )
+
+  initial_read : (operand : Operand) → IsReadFirst program (first + n) operand → HeldFirst operand → ReadFirst operand
+  initial_read Unused read held_for = (tt, unused_cells program first_scene first_done)
+  initial_read (Literal kind cell) read held_for = (tt, literal_cells program first_scene first_done kind cell read.below)
+  initial_read Time read held_for = absurd read.below
+  initial_read (Input k) read held_for = (grid_there program stage known formed knows k read.below, grid_cells program stage known formed knows 0 first_done k read.below)
+  initial_read (from.Stack k) read held_for = absurd read.below
+  initial_read (Initial k) read held_for =
+      let below : k < first + n = read.below in
+      let here = there program.initial k (let all = is.there in omega arith) in
+      elim (cases_lt k first) as (λ x. ReadFirst (Initial k)) [
+        | inl before ↦ before_read k here.0 here.1 read before
+        | inr behind ↦ within_read k here.0 here.1 below held_for behind
+      ]
+  initial_read (Now k) read held_for = absurd read.below
+  initial_read (Last k i) read held_for = absurd read.below
+  initial_read (Drain k) read held_for =
+      let here = there program.drains k read.below.within in
+      let due = due_before k here.0 here.1 read.below in
+      (knows.outside.drains k here.0 here.1 due, drain_cells program stage known formed knows 0 first_done k first here.0 refl here.1 due knows.outside.drains)
+
+-- ---- what a step reads
+
+module _ (program : Program) (first last : ℕ) (known : Known) (formed : IsWellFormed program) (knows : Knows program (span.Steps first last) known) (is : AreSteps program first last 1) (n : ℕ) (held : List (Option WholeMap)) (count : length held ≡ n) where
+  abbrev steps : Span
+  steps = span.Steps first last
+
+  abbrev now_done : Done
+  now_done = step_done program known held
+
+  abbrev now_scene : Scene
+  now_scene = scene_of program.inputs known first
+
+  -- the map of an operand is there, and has its cells
+  abbrev ReadNow : Operand → Type 0
+  ReadNow operand = IsThereAtStep program first known held operand × HasItsCells program now_scene now_done operand
+
+  -- the maps that are held for it are whole
+  abbrev HeldNow : Operand → Type 0
+  HeldNow operand = (k : ℕ) (o : Operation) → is_own steps k operand ≡ true → k < n → slice_get program.dynamic k ≡ Some o → IsWhole (known.rows * known.cols) o.kind (held_at held k)
+
+  -- an operation of `initial` that steps read
+  initial_kept : (k : ℕ) (o : Operation) → slice_get program.initial k ≡ Some o → is_read_in_steps program (is_initial k) ≡ true → IsMapOf (known.rows * known.cols) o.kind (kept_map known.initial k)
+  initial_kept k o here read =
+      knows.outside.initial k o here (kept_as program steps known formed knows k o here ∙ kept_by_steps (is_read_in_steps program (is_initial k)) (is_written program k) (is_mask program k) (is_read_later program k) read)
+
+  -- the map of a name at the step before
+  last_read : (d i : ℕ) (p o : Operation) → slice_get program.dynamic d ≡ Some p → slice_get program.initial i ≡ Some o → AreOneName program d i → is_read_in_steps program (is_initial i) ≡ true → is_carried program d ≡ true → ReadNow (Last d i)
+  last_read d i p o here begun names read carried = (
+    record {
+      begun = λ one. kept_there program steps known formed knows known.initial (length program.initial) i o.kind names.of_initial (initial_kept i o begun read) knows.outside.order;
+      carried = λ later. kept_there program steps known formed knows known.last (length program.dynamic) d p.kind names.of_dynamic (knows.outside.carried (behind later) d p here carried) knows.outside.carried_order;
+    },
+    map_cells program now_scene now_done (Last d i) (cond (first == 1) (kept_map known.initial i) (kept_map known.last d)) p.kind kind_is
+        (ap (λ m. cell_at (cond (first == 1) m (nth (tabulate (kept_map known.last) (length program.dynamic)) d))) (nth_tabulate (kept_map known.initial) (length program.initial) i names.of_initial)
+        ∙ ap (λ m. cell_at (cond (first == 1) (kept_map known.initial i) m)) (nth_tabulate (kept_map known.last) (length program.dynamic) d names.of_dynamic))
+        (by_step (first == 1) refl),
+  )
+    where
+      behind : (first == 1) ≡ false → 1 < first
+      behind later = let some = is.some in grind (arith, some)
+
+      kind_is : operation_kind program.dynamic d ≡ Some p.kind
+      kind_is = ap (option_map (λ (o : Operation). o.kind)) here
+
+      same_kind : o.kind ≡ p.kind
+      same_kind = let both : Some o.kind ≡ Some p.kind = sym (ap (option_map (λ (o : Operation). o.kind)) begun) ∙ (sym names.kind ∙ kind_is) in cc
+
+      by_step : (b : Bool) → (first == 1) ≡ b → IsMapOf (known.rows * known.cols) p.kind (cond b (kept_map known.initial i) (kept_map known.last d))
+      by_step true one = subst (λ k. IsMapOf (known.rows * known.cols) k (kept_map known.initial i)) same_kind (initial_kept i o begun read)
+      by_step false later = knows.outside.carried (behind later) d p here carried
+
+  step_read : (operand : Operand) → IsReadNow program n operand → n ≤ length program.dynamic → HeldNow operand → ReadNow operand
+  step_read Unused read few held_for = (tt, unused_cells program now_scene now_done)
+  step_read (Literal kind cell) read few held_for = (tt, literal_cells program now_scene now_done kind cell read.below)
+  step_read Time read few held_for = (tt, time_cells program now_scene now_done (let a = is.order in let b = is.there in let c = formed.few_steps in omega arith))
+  step_read (Input k) read few held_for = (grid_there program steps known formed knows k read.below, grid_cells program steps known formed knows first now_done k read.below)
+  step_read (from.Stack k) read few held_for =
+      let found = input_there program Stack k read.below in
+      let whole = knows.outside.stacks k first found.0 found.1 found.2 (omega arith) is.order in
+      (whole.count, map_cells program now_scene now_done (from.Stack k) (map_at_step known.stacks first k) found.0.kind (ap (option_map (λ (i : InputUse). i.kind)) found.1) refl whole)
+  step_read (Initial k) read few held_for =
+      let here = there program.initial k read.below in
+      let whole = initial_kept k here.0 here.1 (read.seen (is_initial k) (λ j. refl) (eq-eqb k k refl)) in (
+        kept_there program steps known formed knows known.initial (length program.initial) k here.0.kind read.below whole knows.outside.order,
+        map_cells program now_scene now_done (Initial k) (kept_map known.initial k) here.0.kind (ap (option_map (λ (o : Operation). o.kind)) here.1) (ap cell_at (nth_tabulate (kept_map known.initial) (length program.initial) k read.below)) whole,
+      )
+  step_read (Now k) read few held_for =
+      let below : k < n = read.below in
+      let here = there program.dynamic k (omega arith) in
+      let whole = held_for k here.0 (eq-eqb k k refl) below here.1 in (
+        record { within = omega arith; is = held_whole (known.rows * known.cols) here.0.kind (held_at held k) whole },
+        map_cells program now_scene now_done (Now k) (or_empty (held_at held k)) here.0.kind (ap (option_map (λ (o : Operation). o.kind)) here.1) (ap cell_at (nth_held held k)) (map_there (known.rows * known.cols) here.0.kind (held_at held k) whole),
+      )
+  step_read (Last d i) read few held_for =
+      let here = there program.dynamic d read.below.of_dynamic in
+      let begun = there program.initial i read.below.of_initial in
+      last_read d i here.0 begun.0 here.1 begun.1 read.below (read.seen (is_initial i) (λ j. refl) (eq-eqb i i refl)) (read.seen (is_last d) (λ j. refl) (eq-eqb d d refl))
+  step_read (Drain k) read few held_for =
+      let here = there program.drains k read.below in
+      let same : 0 + k ≡ k = omega arith in
+      let formed_d : IsDrainUse program k here.0 = subst (λ j. IsDrainUse program j here.0) same (drain_use_of program 0 k program.drains here.0 formed.drains here.1) in
+      (knows.outside.drains k here.0 here.1 formed_d.within, drain_cells program steps known formed knows first now_done k (length program.initial) here.0 refl here.1 formed_d.within knows.outside.drains)
 
 -- where an operation reads a map, the map's last reader is not before it
 last_not_before : (s : Span) (operations : List Operation) (last : List ℕ) (n k : ℕ) (d : Operation) → AreLastReaders s operations last → n < length operations → k < length operations → reads s k (get_or operations n d) ≡ true → n ≤ get_or last k 0
@@ -216,97 +470,93 @@ named_c s k o named = or_right (is_own s k o.a) _ (or_right (is_own s k o.b) _ (
 named_d : (s : Span) (k : ℕ) (o : Operation) → is_own s k o.d ≡ true → reads s k o ≡ true
 named_d s k o named = or_right (is_own s k o.a) _ (or_right (is_own s k o.b) _ (or_right (is_own s k o.c) _ (or_left (is_own s k o.d) _ named)))
 
--- an operand of `initial` that may be the map of an operation is its own
-own_initially : (first end k : ℕ) (operand : Operand) → is_initial k operand ≡ true → is_own (span.Initial first end) k operand ≡ true
-own_initially first end k Unused h = absurd (cc)
-own_initially first end k (Literal kind cell) h = absurd (cc)
-own_initially first end k Time h = absurd (cc)
-own_initially first end k (Input n) h = absurd (cc)
-own_initially first end k (from.Stack n) h = absurd (cc)
-own_initially first end k (Initial n) h = h
-own_initially first end k (Now n) h = absurd (cc)
-own_initially first end k (Last n i) h = h
+-- what an operation reads is there, it is one of the program's, and its operands have cells of their kinds
+pub record OperationIs (program : Program) (s : Span) (known : Known) (held : List (Option WholeMap)) (o : Operation) : Type 0 where
+  pub there : AreThere program s known held o
+  pub sound : IsSound program (scene_in program s known) (done_of program s known held) o
+  pub one : IsOneOf program known o
 
--- the maps of an operation's operands
-pub operands_there : (program : Program) (s : Span) (known : Known) (n : ℕ) (held : List (Option WholeMap)) (last : List ℕ) (d : Operation) → IsWellFormed program → IsSpan program s 1 → Knows program s known → n < length (own_operations program s) → length held ≡ n →
-    AreLastReaders s (own_operations program s) last → ((k : ℕ) → k < n → n ≤ get_or last k 0 → IsHeld (known.rows * known.cols) (held_at held k)) → AreThere program s known held (get_or (own_operations program s) n d)
-operands_there program (span.Initial first end) known n held last d formed is_span knows within count are there =
+-- an operation whose operands have cells is one of the program's
+one_of : (program : Program) (s : Span) (known : Known) (scene : Scene) (done : Done) (o : Operation) → IsWellFormed program → Knows program s known → IsSound program scene done o → IsOneOf program known o
+one_of program s known scene done o formed knows is = record {
+  used = is.used;
+  a = is.a.kind;
+  b = is.b.kind;
+  c = is.c.kind;
+  d = is.d.kind;
+  drain = λ along. (is.drain along).kind;
+  kinds = is.kinds;
+  file = file_there program s known formed knows (file_role o.op (length (kinds_of program o))) o.kind o.file is.file;
+}
+
+-- the operation with a number of a span
+pub operation_is : (program : Program) (s : Span) (known : Known) (n : ℕ) (held : List (Option WholeMap)) (last : List ℕ) (d : Operation) → IsWellFormed program → IsSpan program s 1 → Knows program s known → n < length (span_operations program s) → length held ≡ n →
+    AreLastReaders s (span_operations program s) last → AreWhole (known.rows * known.cols) (span_operations program s) last n held → OperationIs program s known held (get_or (span_operations program s) n d)
+operation_is program (span.Initial first end) known n held last d formed is_span knows within count are whole =
     let s = span.Initial first end in
-    let o = get_or program.initial n d in
-    let is = initial_operation program n d formed within in
-    let held_for : (k : ℕ) → reads s k o ≡ true → k < n → IsHeld (known.rows * known.cols) (held_at held k) =
-    λ k reads_it below. there k below (last_not_before s program.initial last n k d are within (omega arith) reads_it) in
-    record {
-      a = initial_there program s known formed knows n held o.a is.a count (λ k named. held_for k (named_a s k o (own_initially first end k o.a named)));
-      b = initial_there program s known formed knows n held o.b is.b count (λ k named. held_for k (named_b s k o (own_initially first end k o.b named)));
-      c = initial_there program s known formed knows n held o.c is.c count (λ k named. held_for k (named_c s k o (own_initially first end k o.c named)));
-      d = initial_there program s known formed knows n held o.d is.d count (λ k named. held_for k (named_d s k o (own_initially first end k o.d named)));
-    }
-operands_there program (span.Steps first end) known n held last d formed is_span knows within count are there =
+    let at = stage_within program first end n is_span within in
+    let here = staged program.initial first end n d at.0 in
+    let P : Operation → Type 0 = λ x. OperationIs program s known held x in
+    subst P (sym here) (of_initial at here)
+  where
+    s : Span
+    s = span.Initial first end
+
+    operations : List Operation
+    operations = slice_range program.initial first end
+
+    o : Operation
+    o = get_or program.initial (first + n) d
+
+    held_for : get_or operations n d ≡ o → (k : ℕ) (p : Operation) → reads s k o ≡ true → k < n → slice_get program.initial (first + k) ≡ Some p → IsWhole (known.rows * known.cols) p.kind (held_at held k)
+    held_for same k p reads_it below there =
+        let read : reads s k (get_or operations n d) ≡ true = ap (reads s k) same ∙ reads_it in
+        let in_stage : k < length operations = omega arith in
+        let few = (stage_within program first end k is_span in_stage).0 in
+        let stands : slice_get operations k ≡ Some p = item_there operations k p in_stage ∙ ap (λ (x : Operation). Some x) (staged program.initial first end k p few ∙ get_or_from_slice_get program.initial (first + k) p p there) in
+        whole k p stands below (last_not_before s operations last n k d are within in_stage read)
+
+    of_initial : (n < end - first) × (first + n < end) × (first + n < length program.initial) → get_or operations n d ≡ o → OperationIs program s known held o
+    of_initial at same =
+        let is = initial_operation program (first + n) d formed at.2 in
+        let read = initial_read program first end known formed knows is_span n at.1 held count in
+        let a = read o.a is.a (λ k p named. held_for same k p (named_a s k o named)) in
+        let b = read o.b is.b (λ k p named. held_for same k p (named_b s k o named)) in
+        let c = read o.c is.c (λ k p named. held_for same k p (named_c s k o named)) in
+        let e = read o.d is.d (λ k p named. held_for same k p (named_d s k o named)) in
+        let drain : goes_along_drains o.op ≡ true → HasDrainMap known o.drain × HasItsCells program (scene_of program.inputs known 0) (initial_done first known held) (Drain o.drain) = λ along. read (Drain o.drain) (is.drain along) (λ k p named. absurd (cc)) in
+        let sound : IsSound program (scene_of program.inputs known 0) (initial_done first known held) o = record { a = a.1; b = b.1; c = c.1; d = e.1; used = is.used; kinds = is.kinds; drain = λ along. (drain along).1; window = is.window; file = is.file; kept = is.kept } in
+        record {
+          there = record { a = a.0; b = b.0; c = c.0; d = e.0; drain = λ along. (drain along).0 };
+          sound = sound;
+          one = one_of program s known (scene_of program.inputs known 0) (initial_done first known held) o formed knows sound;
+        }
+operation_is program (span.Steps first end) known n held last d formed is_span knows within count are whole =
     let s = span.Steps first end in
     let o = get_or program.dynamic n d in
     let is = step_operation program n d formed within in
-    let held_for : (k : ℕ) → reads s k o ≡ true → k < n → IsHeld (known.rows * known.cols) (held_at held k) =
-    λ k reads_it below. there k below (last_not_before s program.dynamic last n k d are within (omega arith) reads_it) in
+    let held_for : (k : ℕ) (p : Operation) → reads s k o ≡ true → k < n → slice_get program.dynamic k ≡ Some p → IsWhole (known.rows * known.cols) p.kind (held_at held k) =
+    λ k p reads_it below there. whole k p there below (last_not_before s program.dynamic last n k d are within (omega arith) reads_it) in
+    let read = λ (operand : Operand) (r : IsReadNow program n operand) (h : (k : ℕ) (p : Operation) → is_own s k operand ≡ true → k < n → slice_get program.dynamic k ≡ Some p → IsWhole (known.rows * known.cols) p.kind (held_at held k)).
+    step_read program first end known formed knows is_span n held count operand r (omega arith) h in
+    let a = read o.a is.a (λ k p named. held_for k p (named_a s k o named)) in
+    let b = read o.b is.b (λ k p named. held_for k p (named_b s k o named)) in
+    let c = read o.c is.c (λ k p named. held_for k p (named_c s k o named)) in
+    let e = read o.d is.d (λ k p named. held_for k p (named_d s k o named)) in
+    let drain : goes_along_drains o.op ≡ true → HasDrainMap known o.drain × HasItsCells program (scene_of program.inputs known first) (step_done program known held) (Drain o.drain) = λ along. read (Drain o.drain) (is.drain along) (λ k p named. absurd (cc)) in
+    let sound : IsSound program (scene_of program.inputs known first) (step_done program known held) o = record { a = a.1; b = b.1; c = c.1; d = e.1; used = is.used; kinds = is.kinds; drain = λ along. (drain along).1; window = is.window; file = is.file; kept = is.kept } in
     record {
-      a = step_there program s known formed knows first end is_span.some is_span.order knows.outside n held o.a is.a count (λ k named. held_for k (named_a s k o named));
-      b = step_there program s known formed knows first end is_span.some is_span.order knows.outside n held o.b is.b count (λ k named. held_for k (named_b s k o named));
-      c = step_there program s known formed knows first end is_span.some is_span.order knows.outside n held o.c is.c count (λ k named. held_for k (named_c s k o named));
-      d = step_there program s known formed knows first end is_span.some is_span.order knows.outside n held o.d is.d count (λ k named. held_for k (named_d s k o named));
+      there = record { a = a.0; b = b.0; c = c.0; d = e.0; drain = λ along. (drain along).0 };
+      sound = sound;
+      one = one_of program s known (scene_of program.inputs known first) (step_done program known held) o formed knows sound;
     }
 
--- ---- what is asked of an operation
-
--- an operand of `initial` has a kind
-initial_kind : (program : Program) (n : ℕ) → n ≤ length program.initial → (operand : Operand) → IsBelow program n operand → HasItsKind program operand
-initial_kind program n enough Unused below used = absurd (cc)
-initial_kind program n enough (Literal kind cell) below used = (kind, refl)
-initial_kind program n enough Time below used = absurd below
-initial_kind program n enough (Input k) below used = let here = there program.inputs k below.within in (here.0.kind, ap (option_map (λ (i : InputUse). i.kind)) here.1)
-initial_kind program n enough (from.Stack k) below used = absurd below
-initial_kind program n enough (Initial k) below used = let before : k < n = below in let here = there program.initial k (omega (arith, before, enough)) in (here.0.kind, ap (option_map (λ (o : Operation). o.kind)) here.1)
-initial_kind program n enough (Now k) below used = absurd below
-initial_kind program n enough (Last k i) below used = absurd below
-
--- so has one of `dynamic`
-step_kind : (program : Program) (n : ℕ) → n ≤ length program.dynamic → (operand : Operand) → IsReadNow program n operand → HasItsKind program operand
-step_kind program n enough Unused read used = absurd (cc)
-step_kind program n enough (Literal kind cell) read used = (kind, refl)
-step_kind program n enough Time read used = (kinds.Scalar, refl)
-step_kind program n enough (Input k) read used = let here = there program.inputs k read.below.within in (here.0.kind, ap (option_map (λ (i : InputUse). i.kind)) here.1)
-step_kind program n enough (from.Stack k) read used = let here = there program.inputs k read.below.within in (here.0.kind, ap (option_map (λ (i : InputUse). i.kind)) here.1)
-step_kind program n enough (Initial k) read used = let here = there program.initial k read.below in (here.0.kind, ap (option_map (λ (o : Operation). o.kind)) here.1)
-step_kind program n enough (Now k) read used = let before : k < n = read.below in let here = there program.dynamic k (omega (arith, before, enough)) in (here.0.kind, ap (option_map (λ (o : Operation). o.kind)) here.1)
-step_kind program n enough (Last k i) read used = let here = there program.dynamic k read.below.of_dynamic in (here.0.kind, ap (option_map (λ (o : Operation). o.kind)) here.1)
-
--- the operation with a number is one of the program's
-pub is_one : (program : Program) (s : Span) (known : Known) (n : ℕ) (d : Operation) → IsWellFormed program → Knows program s known → n < length (own_operations program s) → IsOneOf program known (get_or (own_operations program s) n d)
-is_one program (span.Initial first end) known n d formed knows within =
-    let o = get_or program.initial n d in
-    let is = initial_operation program n d formed within in
-    let enough : n ≤ length program.initial = omega arith in
-    record {
-      used = is.used;
-      a = initial_kind program n enough o.a is.a;
-      b = initial_kind program n enough o.b is.b;
-      c = initial_kind program n enough o.c is.c;
-      d = initial_kind program n enough o.d is.d;
-      kinds = is.kinds;
-      file = file_there program (span.Initial first end) known formed knows (file_role o.op (length (kinds_of program o))) o.kind o.file is.file;
-    }
-is_one program (span.Steps first last) known n d formed knows within =
-    let o = get_or program.dynamic n d in
-    let is = step_operation program n d formed within in
-    let enough : n ≤ length program.dynamic = omega arith in
-    record {
-      used = is.used;
-      a = step_kind program n enough o.a is.a;
-      b = step_kind program n enough o.b is.b;
-      c = step_kind program n enough o.c is.c;
-      d = step_kind program n enough o.d is.d;
-      kinds = is.kinds;
-      file = file_there program (span.Steps first last) known formed knows (file_role o.op (length (kinds_of program o))) o.kind o.file is.file;
-    }
+-- the map of such an operation is whole
+pub whole_map : (program : Program) (s : Span) (known : Known) (held : List (Option WholeMap)) (o : Operation) → Knows program s known → IsSound program (scene_in program s known) (done_of program s known held) o →
+    IsMapOf (known.rows * known.cols) o.kind (operation_part program (scene_in program s known) (done_of program s known held) o).cells
+whole_map program s known held o knows is =
+    map_whole program (scene_in program s known) (done_of program s known held) (scene_inputs program known (step_of s) knows.few knows.maps knows.tables knows.series) (HasItsCells program (scene_in program s known) (done_of program s known held))
+    (record { kind = λ operand read used. read.kind used; cells = λ operand place kind read named below. read.cells place kind named below }) o o.kept is
 
 -- ---- behind an operation
 
@@ -359,33 +609,33 @@ module _ (s : Span) (last : List ℕ) (n : ℕ) (o : Operation) (m : WholeMap) (
         | inr other ↦ step.let_go.each k ∙ (ap (λ b. cond (b && reads s k o) None (held_at before k)) (ne_eqb (get_or last k 0) n other) ∙ gone k less (omega arith))
       ]
 
-  -- so each map that is read later is there
-  pub step_held : (places : ℕ) → length m ≡ places → ((k : ℕ) → k < n → n ≤ get_or last k 0 → IsHeld places (held_at before k)) → (k : ℕ) → k < n + 1 → n + 1 ≤ get_or last k 0 → IsHeld places (held_at after k)
-  step_held places size there k below later = elim (cases_order k n) as (λ x. IsHeld places (held_at after k)) [
+  -- so each map that is read later is there, whole
+  pub step_held : (places : ℕ) (operations : List Operation) → slice_get operations n ≡ Some o → IsMapOf places o.kind m → AreWhole places operations last n before → AreWhole places operations last (n + 1) after
+  step_held places operations here whole there k p stands below later = elim (cases_order k n) as (λ x. IsWhole places p.kind (held_at after k)) [
     | inl same ↦
-        let here : held_at after k ≡ Some m = subst (λ j. held_at after j ≡ Some m) (sym same) (step_here (let l : n + 1 ≤ get_or last n 0 = subst (λ j. n + 1 ≤ get_or last j 0) same later in omega arith)) in
-        subst (IsHeld places) (sym here) size
-    | inr (inl less) ↦ subst (IsHeld places) (sym (step_before k less (omega arith))) (there k less (omega arith))
+        let op : o ≡ p = (let two : Some o ≡ Some p = sym here ∙ (ap (slice_get operations) (sym same) ∙ stands) in cc) in
+        let held : held_at after k ≡ Some m = subst (λ j. held_at after j ≡ Some m) (sym same) (step_here (let l : n + 1 ≤ get_or last n 0 = subst (λ j. n + 1 ≤ get_or last j 0) same later in omega arith)) in
+        let P : Operation → Type 0 = λ x. IsMapOf places x.kind m in
+        subst (IsWhole places p.kind) (sym held) (subst P op whole)
+    | inr (inl less) ↦ subst (IsWhole places p.kind) (sym (step_before k less (omega arith))) (there k p stands less (omega arith))
     | inr (inr more) ↦ absurd (omega arith)
   ]
 
-  -- the map with a number, among those that are held
-  nth_held : (held : List (Option WholeMap)) (k : ℕ) → nth (map or_empty held) k ≡ or_empty (held_at held k)
-  nth_held [] k = refl
-  nth_held (x ∷ held) zero = refl
-  nth_held (x ∷ held) (suc k) = nth_held held k
-
-  -- the maps of the section are those that are held
-  own_held : (program : Program) (known : Known) (held : List (Option WholeMap)) → section_maps s (done_of program s known held) ≡ map or_empty held
-  own_held program known held = by_span s held
-    where
-      by_span : (s : Span) (held : List (Option WholeMap)) → section_maps s (done_of program s known held) ≡ map or_empty held
-      by_span (span.Initial first end) held = refl
-      by_span (span.Steps first last) held = refl
+  -- the maps of the span are those that are held
+  own_at : (s : Span) (program : Program) (known : Known) (held : List (Option WholeMap)) (k : ℕ) → nth (section_maps s (done_of program s known held)) (first_operation s + k) ≡ nth (map or_empty held) k
+  own_at (span.Initial first end) program known held k =
+      let past : first + k - first ≡ k = omega arith in
+      get_or-append_right (tabulate (kept_map known.initial) first) (map or_empty held) first (first + k) [] (tabulate_count (kept_map known.initial) first) (omega arith) ∙ ap (nth (map or_empty held)) past
+  own_at (span.Steps first end) program known held k = let same : 0 + k ≡ k = omega arith in ap (nth (map or_empty held)) same
 
   -- with one more map
-  own_more : (program : Program) (known : Known) → section_maps s (with_map s (done_of program s known before) m) ≡ map or_empty before ++ m ∷ []
-  own_more program known = own_map s (done_of program s known before) m ∙ ap (λ maps. maps ++ m ∷ []) (own_held program known before)
+  more_at : (s : Span) (program : Program) (known : Known) (k : ℕ) → nth (section_maps s (with_map s (done_of program s known before) m)) (first_operation s + k) ≡ nth (map or_empty before ++ m ∷ []) k
+  more_at (span.Initial first end) program known k =
+      let front = tabulate (kept_map known.initial) first in
+      let past : first + k - first ≡ k = omega arith in
+      ap (λ maps. nth maps (first + k)) (append_assoc front (map or_empty before) (m ∷ []))
+      ∙ (get_or-append_right front (map or_empty before ++ m ∷ []) first (first + k) [] (tabulate_count (kept_map known.initial) first) (omega arith) ∙ ap (nth (map or_empty before ++ m ∷ [])) past)
+  more_at (span.Steps first end) program known k = let same : 0 + k ≡ k = omega arith in ap (nth (map or_empty before ++ m ∷ [])) same
 
   -- a map that is read later is the same as if all were held
   own_same : (operations : List Operation) → AreLastReaders s operations last → n < length operations → (k : ℕ) → list_any (reads s k) (drop (n + 1) operations) ≡ true → nth (map or_empty after) k ≡ nth (map or_empty before ++ m ∷ []) k
@@ -410,16 +660,31 @@ module _ (s : Span) (last : List ℕ) (n : ℕ) (o : Operation) (m : WholeMap) (
   pub step_same : (program : Program) (known : Known) (operations : List Operation) → AreLastReaders s operations last → n < length operations → SameRead s (done_of program s known after) (with_map s (done_of program s known before) m) (drop (n + 1) operations)
   step_same program known operations are within = record {
     outside = outside s;
-    own = λ k is. ap (λ maps. nth maps k) (own_held program known after) ∙ (own_same operations are within k is ∙ sym (ap (λ maps. nth maps k) (own_more program known)));
+    own = λ k is. own_at s program known after k ∙ (own_same operations are within k is ∙ sym (more_at s program known k));
   }
     where
       outside : (s : Span) → SameOutside s (done_of program s known after) (with_map s (done_of program s known before) m)
-      outside (span.Initial first end) = (refl, refl)
-      outside (span.Steps first last) = (refl, refl)
+      outside (span.Initial first end) =
+          let front = tabulate (kept_map known.initial) first in
+          let size = tabulate_count (kept_map known.initial) first in (
+            λ k below.
+                get_or_append_left front (map or_empty after) [] k (omega arith)
+                ∙ sym (ap (λ maps. nth maps k) (append_assoc front (map or_empty before) (m ∷ [])) ∙ get_or_append_left front (map or_empty before ++ m ∷ []) [] k (omega arith)),
+            refl,
+            refl,
+            refl,
+          )
+      outside (span.Steps first last) = (refl, refl, refl)
 
   -- there are as many
   pub step_length : (program : Program) (known : Known) → length (section_maps s (done_of program s known after)) ≡ length (section_maps s (with_map s (done_of program s known before) m))
-  step_length program known =
-      ap length (own_held program known after)
-      ∙ ((length-map after or_empty ∙ (step_count ∙ (ap (λ k. k + 1) (sym (length-map before or_empty ∙ step.count)) ∙ sym (length_push (map or_empty before) m))))
-      ∙ sym (ap length (own_more program known)))
+  step_length program known = by_span s
+    where
+      sizes : length (map or_empty after) ≡ length (map or_empty before ++ m ∷ [])
+      sizes = length-map after or_empty ∙ (step_count ∙ (ap (λ k. k + 1) (sym (length-map before or_empty ∙ step.count)) ∙ sym (length_push (map or_empty before) m)))
+
+      by_span : (s : Span) → length (section_maps s (done_of program s known after)) ≡ length (section_maps s (with_map s (done_of program s known before) m))
+      by_span (span.Initial first end) =
+          let front = tabulate (kept_map known.initial) first in
+          length-append front (map or_empty after) ∙ (ap (λ k. length front + k) sizes ∙ (sym (length-append front (map or_empty before ++ m ∷ [])) ∙ sym (ap length (append_assoc front (map or_empty before) (m ∷ [])))))
+      by_span (span.Steps first end) = sizes

@@ -1,5 +1,5 @@
 -- The map of an operation and its first Over.
-use Rattle.std.proofs.Common.{◌≡◌, ℕ, ◌<◌, length, sym, ap, ◌∙◌, arith}
+use Rattle.std.proofs.Common.{◌≡◌, ℕ, ◌<◌, arith}
 use Rattle.std.specs.Prelude.{Option, None, Some, Ok}
 use Rattle.tile_map.proofs.Callers.{is_part-part_of}
 use Rattle.tile_map.specs.Parts.{Outcome, TellsFirstOver, first_over}
@@ -22,18 +22,13 @@ over_below program scene done o place is =
     let f = outcome_at program scene done o in
     told_below f (place_count scene) (first_over f (place_count scene)) place (is_part-part_of f (place_count scene)).over is
 
--- the map of an operation has all its cells
-pub part_size : (program : Program) (scene : Scene) (done : Done) (o : Operation) → length (operation_part program scene done o).cells ≡ place_count scene
-unfolding operation_part
-part_size program scene done o = (is_part-part_of (outcome_at program scene done o) (place_count scene)).size
-
 -- a map that an operation gave is that of its part
 gave : (scene : Scene) (statement number : ℕ) (over : Option ℕ) (cells m : WholeMap) → map_or_over scene statement number over cells ≡ Ok m → cells ≡ m
 gave scene statement number None cells m is = cc
 gave scene statement number (Some place) cells m is = absurd (cc)
 
--- the map that an operation gave has all its cells
-pub map_size : (program : Program) (scene : Scene) (done : Done) (o : Operation) (m : WholeMap) → operation_value program scene done o ≡ Ok m → length m ≡ place_count scene
-map_size program scene done o m is =
+-- the map that an operation gave is that of the operation's part
+pub map_is : (program : Program) (scene : Scene) (done : Done) (o : Operation) (m : WholeMap) → operation_value program scene done o ≡ Ok m → (operation_part program scene done o).cells ≡ m
+map_is program scene done o m is =
     let part = operation_part program scene done o in
-    sym (ap length (gave scene o.statement o.number part.over part.cells m is)) ∙ part_size program scene done o
+    gave scene o.statement o.number part.over part.cells m is

@@ -1,5 +1,5 @@
 -- What an operation of a well-formed program computes at each place.
-use Rattle.std.proofs.Common.{◌≡◌, ℕ, zero, suc, ◌<◌, true, ◌&&◌, ◌∙◌, List, [], ◌∷◌, length, map, refl, sym, ap, subst, arith}
+use Rattle.std.proofs.Common.{◌≡◌, ℕ, zero, suc, ◌<◌, Bool, true, false, cond, ◌&&◌, ◌∙◌, List, [], ◌∷◌, length, map, refl, sym, ap, subst, arith}
 use Rattle.std.specs.Prelude.{Option, None, Some, slice_index_or, unwrap_or, nat_le, ⊤}
 use Rattle.std.specs.List.{cons_option, filter_map, list_all}
 use Rattle.std.proofs.Math.Path.{fun_ext}
@@ -16,16 +16,18 @@ use Rattle.map_meaning.specs.declared.known.Known.{Known}
 use Rattle.map_meaning.specs.declared.op.Op.{Op}
 use Rattle.map_meaning.specs.declared.op.Op.TheVariants as op
 use Rattle.map_meaning.specs.declared.program.Operand.{Operand}
-use Rattle.map_meaning.specs.declared.program.Operand.TheVariants.{Unused, Literal, Time, Input, Initial, Now, Last}
+use Rattle.map_meaning.specs.declared.program.Operand.TheVariants.{Unused, Literal, Time, Input, Initial, Now, Last, Drain}
 use Rattle.map_meaning.specs.declared.program.Operand.TheVariants as from
 use Rattle.map_meaning.specs.declared.program.Operation.{Operation}
 use Rattle.map_meaning.specs.declared.program.Program.{Program}
 use Rattle.map_meaning.specs.Evaluation.{Done, operand_cell, operation_part}
-use Rattle.map_meaning.specs.Programs.{are_used_first, is_unused, kinds_of, operand_kind, operands_of}
-use Rattle.map_meaning.specs.Rules.{Setting, kind_at}
+use Rattle.map_meaning.specs.Programs.{all_operands, are_used_first, is_unused, kinds_of, operand_kind, operands_of}
+use Rattle.map_meaning.specs.Rules.{Setting, kind_at, outcome_of, rule_of}
 use Rattle.map_meaning.specs.Scenes.{Scene, place_count, setting_at}
-use Rattle.map_meaning.specs.Table.{HasKinds, allows, ask_at, common_kind, map_row, row_of}
+use Rattle.map_meaning.specs.Table.{HasKinds, allows, ask_at, common_kind, goes_along_drains, map_row, row_of}
+use Rattle.plain_eval.specs.declared.scope.Scope.TheVariants as scope
 use Rattle.plain_eval.specs.inside.Held.{HasItsKind, IsOneOf}
+use Rattle.plain_eval.specs.inside.Scopes.{IsScopeOf, is_local}
 
 -- ---- the kinds of operands
 
@@ -44,6 +46,7 @@ no_kinds program (from.Stack k ∷ more) unused = absurd (cc)
 no_kinds program (Initial k ∷ more) unused = absurd (cc)
 no_kinds program (Now k ∷ more) unused = absurd (cc)
 no_kinds program (Last k i ∷ more) unused = absurd (cc)
+no_kinds program (Drain k ∷ more) unused = absurd (cc)
 
 -- nor has any of them one
 none_there : (program : Program) (operands : List Operand) (i : ℕ) → list_all is_unused operands ≡ true → unwrap_or (operand_kind program (operand_in_list operands i)) Scalar ≡ Scalar
@@ -57,6 +60,7 @@ none_there program (from.Stack k ∷ more) i unused = absurd (cc)
 none_there program (Initial k ∷ more) i unused = absurd (cc)
 none_there program (Now k ∷ more) i unused = absurd (cc)
 none_there program (Last k i ∷ more) n unused = absurd (cc)
+none_there program (Drain k ∷ more) n unused = absurd (cc)
 
 -- each operand has its kind
 abbrev AllHaveKinds : Program → List Operand → Type 0
@@ -84,23 +88,39 @@ kinds_at program (from.Stack k ∷ more) i used have = kind_behind program (from
 kinds_at program (Initial k ∷ more) i used have = kind_behind program (Initial k) more i (have.0 refl) (λ i. kinds_at program more i used have.1)
 kinds_at program (Now k ∷ more) i used have = kind_behind program (Now k) more i (have.0 refl) (λ i. kinds_at program more i used have.1)
 kinds_at program (Last k j ∷ more) i used have = kind_behind program (Last k j) more i (have.0 refl) (λ i. kinds_at program more i used have.1)
+kinds_at program (Drain k ∷ more) i used have = kind_behind program (Drain k) more i (have.0 refl) (λ i. kinds_at program more i used have.1)
 
--- the kinds of an operation's operands
-pub operation_kinds : (program : Program) (known : Known) (o : Operation) (i : ℕ) → IsOneOf program known o → kind_at (kinds_of program o) i ≡ unwrap_or (operand_kind program (operand_in_list (operands_of o) i)) Scalar
-operation_kinds program known o i one = kinds_at program (operands_of o) i one.used (one.a, (one.b, (one.c, (one.d, tt))))
+-- the kinds of an operation's operands, with the drain map that it goes along
+all_kinds : (program : Program) (o : Operation) (along : Bool) (i : ℕ) → (along ≡ true → HasItsKind program (Drain o.drain)) → are_used_first (operands_of o) ≡ true → AllHaveKinds program (operands_of o) →
+    kind_at (filter_map (operand_kind program) (cond along (Drain o.drain ∷ operands_of o) (operands_of o))) i ≡ unwrap_or (operand_kind program (operand_in_list (cond along (Drain o.drain ∷ operands_of o) (operands_of o)) i)) Scalar
+all_kinds program o true i drain used have = kinds_at program (Drain o.drain ∷ operands_of o) i used (drain refl, have)
+all_kinds program o false i drain used have = kinds_at program (operands_of o) i used have
 
--- the kind of the first
-pub first_kind : (program : Program) (known : Known) (o : Operation) → IsOneOf program known o → unwrap_or (operand_kind program o.a) Scalar ≡ kind_at (kinds_of program o) 0
-first_kind program known o one = sym (operation_kinds program known o 0 one)
+operation_kinds : (program : Program) (known : Known) (o : Operation) (i : ℕ) → IsOneOf program known o → kind_at (kinds_of program o) i ≡ unwrap_or (operand_kind program (operand_in_list (all_operands o) i)) Scalar
+operation_kinds program known o i one = all_kinds program o (goes_along_drains o.op) i one.drain one.used (one.a, (one.b, (one.c, (one.d, tt))))
 
--- the kinds of four operands
-pub keys_are : (program : Program) (known : Known) (o : Operation) (i : ℕ) → IsOneOf program known o → i < 4 →
+-- the kinds of one that goes along no drain map
+alone_kinds : (program : Program) (known : Known) (o : Operation) (i : ℕ) → IsOneOf program known o → goes_along_drains o.op ≡ false → kind_at (kinds_of program o) i ≡ unwrap_or (operand_kind program (operand_in_list (operands_of o) i)) Scalar
+alone_kinds program known o i one alone =
+    operation_kinds program known o i one ∙ ap (λ along. unwrap_or (operand_kind program (operand_in_list (cond along (Drain o.drain ∷ operands_of o) (operands_of o)) i)) Scalar) alone
+
+-- the kind of the first operand of a local operation
+pub first_kind : (program : Program) (known : Known) (o : Operation) → IsOneOf program known o → IsScopeOf scope.Local o.op → unwrap_or (operand_kind program o.a) Scalar ≡ kind_at (kinds_of program o) 0
+first_kind program known o one is = sym (alone_kinds program known o 0 one is.1)
+
+-- the kind of what is transported
+pub carried_kind : (program : Program) (known : Known) (o : Operation) → IsOneOf program known o → goes_along_drains o.op ≡ true → unwrap_or (operand_kind program o.a) Scalar ≡ kind_at (kinds_of program o) 1
+carried_kind program known o one along =
+    sym (operation_kinds program known o 1 one ∙ ap (λ b. unwrap_or (operand_kind program (operand_in_list (cond b (Drain o.drain ∷ operands_of o) (operands_of o)) 1)) Scalar) along)
+
+-- the kinds of four operands of a local operation
+pub keys_are : (program : Program) (known : Known) (o : Operation) (i : ℕ) → IsOneOf program known o → IsScopeOf scope.Local o.op → i < 4 →
     kind_at (unwrap_or (operand_kind program o.a) Scalar ∷ unwrap_or (operand_kind program o.b) Scalar ∷ unwrap_or (operand_kind program o.c) Scalar ∷ unwrap_or (operand_kind program o.d) Scalar ∷ []) i ≡ kind_at (kinds_of program o) i
-keys_are program known o zero one below = sym (operation_kinds program known o 0 one)
-keys_are program known o (suc zero) one below = sym (operation_kinds program known o 1 one)
-keys_are program known o (suc (suc zero)) one below = sym (operation_kinds program known o 2 one)
-keys_are program known o (suc (suc (suc zero))) one below = sym (operation_kinds program known o 3 one)
-keys_are program known o (suc (suc (suc (suc i)))) one below = absurd (omega arith)
+keys_are program known o zero one is below = sym (alone_kinds program known o 0 one is.1)
+keys_are program known o (suc zero) one is below = sym (alone_kinds program known o 1 one is.1)
+keys_are program known o (suc (suc zero)) one is below = sym (alone_kinds program known o 2 one is.1)
+keys_are program known o (suc (suc (suc zero))) one is below = sym (alone_kinds program known o 3 one is.1)
+keys_are program known o (suc (suc (suc (suc i)))) one is below = absurd (omega arith)
 
 -- ---- the work
 
@@ -151,49 +171,53 @@ one_asked kinds h = let parts = and_parts (nat_le 1 (length kinds)) (nat_le (len
 -- the conversion of an operation on operands of kinds that the table allows is one that there is
 converts : (o : Op) (to : Kind) (kinds : List Kind) (kind : Kind) → converts_to o ≡ Some to → HasKinds (map_row (row_of o)) kinds kind → IsConversion (kind_at kinds 0) to
 unfolding row_of
-converts op.CopyOf to kinds kind is h = absurd (cc)
-converts op.Add to kinds kind is h = absurd (cc)
-converts op.Sub to kinds kind is h = absurd (cc)
-converts op.Mul to kinds kind is h = absurd (cc)
-converts op.Div to kinds kind is h = absurd (cc)
-converts op.IntDiv to kinds kind is h = absurd (cc)
-converts op.IntMod to kinds kind is h = absurd (cc)
-converts op.Neg to kinds kind is h = absurd (cc)
-converts op.Abs to kinds kind is h = absurd (cc)
-converts op.RoundDown to kinds kind is h = absurd (cc)
-converts op.RoundUp to kinds kind is h = absurd (cc)
-converts op.RoundOff to kinds kind is h = absurd (cc)
-converts op.Min to kinds kind is h = absurd (cc)
-converts op.Max to kinds kind is h = absurd (cc)
-converts op.Equal to kinds kind is h = absurd (cc)
-converts op.NotEqual to kinds kind is h = absurd (cc)
-converts op.Less to kinds kind is h = absurd (cc)
-converts op.LessEqual to kinds kind is h = absurd (cc)
-converts op.Greater to kinds kind is h = absurd (cc)
-converts op.GreaterEqual to kinds kind is h = absurd (cc)
-converts op.And to kinds kind is h = absurd (cc)
-converts op.Or to kinds kind is h = absurd (cc)
-converts op.Xor to kinds kind is h = absurd (cc)
-converts op.Not to kinds kind is h = absurd (cc)
-converts op.IfThen to kinds kind is h = absurd (cc)
-converts op.IfElse to kinds kind is h = absurd (cc)
-converts op.Cover to kinds kind is h = absurd (cc)
-converts op.Defined to kinds kind is h = absurd (cc)
 converts op.ToBoolean to kinds kind is h = let same : Boolean ≡ to = cc in subst (IsConversion (kind_at kinds 0)) same (to_boolean (common_kind (row_of op.ToBoolean) kinds) (kind_at kinds 0) (h.each 0 (one_asked kinds h.count)))
 converts op.ToNominal to kinds kind is h = let same : Nominal ≡ to = cc in subst (IsConversion (kind_at kinds 0)) same (to_nominal (common_kind (row_of op.ToNominal) kinds) (kind_at kinds 0) (h.each 0 (one_asked kinds h.count)))
 converts op.ToOrdinal to kinds kind is h = let same : Ordinal ≡ to = cc in subst (IsConversion (kind_at kinds 0)) same (to_ordinal (common_kind (row_of op.ToOrdinal) kinds) (kind_at kinds 0) (h.each 0 (one_asked kinds h.count)))
 converts op.ToDirectional to kinds kind is h = let same : Directional ≡ to = cc in subst (IsConversion (kind_at kinds 0)) same (to_directional (common_kind (row_of op.ToDirectional) kinds) (kind_at kinds 0) (h.each 0 (one_asked kinds h.count)))
 converts op.ToScalar to kinds kind is h = let same : Scalar ≡ to = cc in subst (IsConversion (kind_at kinds 0)) same refl
-converts op.LookupBoolean to kinds kind is h = absurd (cc)
-converts op.LookupNominal to kinds kind is h = absurd (cc)
-converts op.LookupOrdinal to kinds kind is h = absurd (cc)
-converts op.LookupScalar to kinds kind is h = absurd (cc)
-converts op.LookupDirectional to kinds kind is h = absurd (cc)
-converts op.TimeInputBoolean to kinds kind is h = absurd (cc)
-converts op.TimeInputNominal to kinds kind is h = absurd (cc)
-converts op.TimeInputOrdinal to kinds kind is h = absurd (cc)
-converts op.TimeInputScalar to kinds kind is h = absurd (cc)
-converts op.TimeInputDirectional to kinds kind is h = absurd (cc)
+converts o to kinds kind is h = absurd (cc)
+
+-- a local operation that is none of those that convert or look anything up is plain
+pub plain_alone : (o : Op) → is_local (rule_of o) ≡ true →
+    (o ≡ op.ToBoolean → ⊥) → (o ≡ op.ToNominal → ⊥) → (o ≡ op.ToOrdinal → ⊥) → (o ≡ op.ToScalar → ⊥) → (o ≡ op.ToDirectional → ⊥) →
+    (o ≡ op.LookupBoolean → ⊥) → (o ≡ op.LookupNominal → ⊥) → (o ≡ op.LookupOrdinal → ⊥) → (o ≡ op.LookupScalar → ⊥) → (o ≡ op.LookupDirectional → ⊥) →
+    (o ≡ op.TimeInputBoolean → ⊥) → (o ≡ op.TimeInputNominal → ⊥) → (o ≡ op.TimeInputOrdinal → ⊥) → (o ≡ op.TimeInputScalar → ⊥) → (o ≡ op.TimeInputDirectional → ⊥) → is_plain o ≡ true
+unfolding rule_of
+plain_alone op.ToBoolean local a b c d e f g h i j k l m n p = absurd (a refl)
+plain_alone op.ToNominal local a b c d e f g h i j k l m n p = absurd (b refl)
+plain_alone op.ToOrdinal local a b c d e f g h i j k l m n p = absurd (c refl)
+plain_alone op.ToScalar local a b c d e f g h i j k l m n p = absurd (d refl)
+plain_alone op.ToDirectional local a b c d e f g h i j k l m n p = absurd (e refl)
+plain_alone op.LookupBoolean local a b c d e f g h i j k l m n p = absurd (f refl)
+plain_alone op.LookupNominal local a b c d e f g h i j k l m n p = absurd (g refl)
+plain_alone op.LookupOrdinal local a b c d e f g h i j k l m n p = absurd (h refl)
+plain_alone op.LookupScalar local a b c d e f g h i j k l m n p = absurd (i refl)
+plain_alone op.LookupDirectional local a b c d e f g h i j k l m n p = absurd (j refl)
+plain_alone op.TimeInputBoolean local a b c d e f g h i j k l m n p = absurd (k refl)
+plain_alone op.TimeInputNominal local a b c d e f g h i j k l m n p = absurd (l refl)
+plain_alone op.TimeInputOrdinal local a b c d e f g h i j k l m n p = absurd (m refl)
+plain_alone op.TimeInputScalar local a b c d e f g h i j k l m n p = absurd (n refl)
+plain_alone op.TimeInputDirectional local a b c d e f g h i j k l m n p = absurd (p refl)
+plain_alone op.WindowTotal local a b c d e f g h i j k l m n p = absurd (cc)
+plain_alone op.WindowAverage local a b c d e f g h i j k l m n p = absurd (cc)
+plain_alone op.WindowMinimum local a b c d e f g h i j k l m n p = absurd (cc)
+plain_alone op.WindowMaximum local a b c d e f g h i j k l m n p = absurd (cc)
+plain_alone op.WindowDiversity local a b c d e f g h i j k l m n p = absurd (cc)
+plain_alone op.WindowMajority local a b c d e f g h i j k l m n p = absurd (cc)
+plain_alone op.AreaTotal local a b c d e f g h i j k l m n p = absurd (cc)
+plain_alone op.AreaAverage local a b c d e f g h i j k l m n p = absurd (cc)
+plain_alone op.AreaMinimum local a b c d e f g h i j k l m n p = absurd (cc)
+plain_alone op.AreaMaximum local a b c d e f g h i j k l m n p = absurd (cc)
+plain_alone op.AreaDiversity local a b c d e f g h i j k l m n p = absurd (cc)
+plain_alone op.AreaMajority local a b c d e f g h i j k l m n p = absurd (cc)
+plain_alone op.AreaArea local a b c d e f g h i j k l m n p = absurd (cc)
+plain_alone op.MapTotal local a b c d e f g h i j k l m n p = absurd (cc)
+plain_alone op.MapMinimum local a b c d e f g h i j k l m n p = absurd (cc)
+plain_alone op.MapMaximum local a b c d e f g h i j k l m n p = absurd (cc)
+plain_alone (op.Near o) local a b c d e f g h i j k l m n p = absurd (cc)
+plain_alone (op.Flow o) local a b c d e f g h i j k l m n p = absurd (cc)
+plain_alone o local a b c d e f g h i j k l m n p = refl
 
 -- the work of an operation of a program is one that there is
 pub work_is : (work : CellWork) (o : Op) (setting : Setting) (kind : Kind) → IsWorkOf work o setting → HasKinds (map_row (row_of o)) setting.kinds kind → IsWork work
@@ -204,10 +228,12 @@ work_is (SeriesAt series step) o setting kind is h = tt
 
 -- ---- the map
 
--- what the work of an operation gives of its operands is the operation's map, with its first Over
-pub part_means : (program : Program) (scene : Scene) (done : Done) (o : Operation) (work : CellWork) → IsWorkOf work o.op (setting_at scene o.file (kinds_of program o)) →
+-- what the work of a local operation gives of its operands is the operation's map, with its first Over
+pub part_means : (program : Program) (scene : Scene) (done : Done) (o : Operation) (work : CellWork) → goes_along_drains o.op ≡ false → IsWorkOf work o.op (setting_at scene o.file o.window (kinds_of program o)) →
     part_of (λ place. work_outcome work (operand_cell scene done o.a place) (operand_cell scene done o.b place) (operand_cell scene done o.c place) (operand_cell scene done o.d place)) (place_count scene)
     ≡ operation_part program scene done o
 unfolding operation_part
-part_means program scene done o work is =
-    ap (λ f. part_of f (place_count scene)) (fun_ext (λ place. sym (works_mean work o.op (setting_at scene o.file (kinds_of program o)) (map (operand_cell scene done) (operands_of o)) place is)))
+part_means program scene done o work alone is =
+    let setting = setting_at scene o.file o.window (kinds_of program o) in
+    ap (λ f. part_of f (place_count scene)) (fun_ext (λ place. sym (works_mean work o.op setting (map (operand_cell scene done) (operands_of o)) place is)))
+    ∙ ap (λ along. part_of (outcome_of o.op setting (map (operand_cell scene done) (cond along (Drain o.drain ∷ operands_of o) (operands_of o)))) (place_count scene)) (sym alone)

@@ -3,3 +3,4 @@ pub mod Inputs
 pub mod Readers
 pub mod Held
 pub mod Finished
+pub mod Scopes

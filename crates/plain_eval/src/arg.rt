@@ -3,18 +3,19 @@ ghost use Rattle.map_meaning.specs.Evaluation.{operand_cell, last_map};
 ghost use Rattle.map_meaning.specs.Maps.{nth, step_cell};
 ghost use Rattle.map_meaning.specs.Programs.{is_grid_role};
 ghost use Rattle.map_meaning.specs.Scenes.{map_at_step};
-ghost use Rattle.map_meaning.specs.Spans.{at_inputs, kept_map, scene_of};
-ghost use Rattle.plain_eval.specs.inside.Held.{HasGrid, HasHeld, HasKept, HasLast, IsThere, IsThereAtStep, IsThereInitially, done_of, held_at, initial_done, or_empty, step_done};
+ghost use Rattle.map_meaning.specs.Spans.{at_inputs, kept_map, known_codes, scene_of};
+ghost use Rattle.plain_eval.specs.inside.Held.{HasDrainMap, HasGrid, HasHeld, HasInitial, HasKept, HasLast, IsThere, IsThereAtStep, IsThereInitially, done_of, held_at, initial_done, or_empty, step_done};
 ghost use Rattle.plain_eval.specs.inside.Sections.{scene_in};
 ghost use Rattle.tile_map.specs.Args.{SpansPlaces, arg_cell};
 ghost use Rattle.tile_map.specs.Cuts.{cell_at};
 ghost use Rattle.tile_map.specs.Parts.{tabulate};
 
+use crate::drains::drain_map;
 use crate::inputs::{kept_cells, place_among, stack_cells};
 use cell_values::Cell;
 use map_meaning::{Arg, Known, Map, Operand, Program, Role, Span, StepMap};
 
-// The map of an operation that is held.
+// The map of an operation of the span that is held.
 fn held_map<'a>(held: &'a [Option<Map>], n: u32) -> &'a Map
     requires below { n < length held.now }
     requires held { IsSome (held_at held.now n) }
@@ -26,7 +27,7 @@ fn held_map<'a>(held: &'a [Option<Map>], n: u32) -> &'a Map
     }
 }
 
-// The map of an operation that is held, over so many places.
+// The map of an operation of the span that is held, over so many places.
 fn held_arg<'a>(held: &'a [Option<Map>], n: u32, _places: usize) -> Arg<'a>
     requires { HasHeld _places held.now n }
     ensures cell { arg_cell result ≡ cell_at (nth (map or_empty held.now) n) }
@@ -91,22 +92,48 @@ fn last_arg<'a>(
     )
 }
 
-// An operand of an operation of `initial`, over all places.
+// The map of an operation of `initial` in a stage that begins at `first`, over all places: it is known of an earlier stage, or
+// held.
+fn initial_map<'a>(first: u32, n: u32, known: &'a Known, held: &'a [Option<Map>]) -> Arg<'a>
+    requires { HasInitial first known.now held.now n }
+    ensures cell { arg_cell result ≡ cell_at (nth (initial_done first known.now held.now).initial n) }
+    ensures spans { SpansPlaces result (known.now.rows * known.now.cols) }
+{
+    let places = known.rows as usize * known.cols as usize;
+    if n < first {
+        kept_arg(known.initial.as_slice(), n, first as usize, places)
+    } else {
+        held_arg(held, n - first, places)
+    }
+}
+
+// The codes of a drain map, over all places.
+fn codes<'a>(known: &'a Known, n: u32) -> Arg<'a>
+    requires { HasDrainMap known.now n }
+    ensures cell { arg_cell result ≡ cell_at (nth (known_codes known.now) n) }
+    ensures spans { SpansPlaces result (known.now.rows * known.now.cols) }
+{
+    Arg::Cells(drain_map(known, n).cells())
+}
+
+// An operand of an operation of `initial`, in a stage that begins at `first`, over all places.
 fn initial_arg<'a>(
     operand: Operand,
     program: &Program,
+    first: u32,
     known: &'a Known,
     held: &'a [Option<Map>],
 ) -> Arg<'a>
-    requires { IsThereInitially program.now known.now held.now operand }
-    ensures cell { arg_cell result ≡ operand_cell (scene_of program.now.inputs known.now 0) (initial_done held.now) operand }
+    requires { IsThereInitially program.now first known.now held.now operand }
+    ensures cell { arg_cell result ≡ operand_cell (scene_of program.now.inputs known.now 0) (initial_done first known.now held.now) operand }
     ensures spans { SpansPlaces result (known.now.rows * known.now.cols) }
 {
     match operand {
         Operand::Unused => Arg::Unused,
         Operand::Literal(_, cell) => Arg::One(cell),
         Operand::Input(n) => grid(program, known, n),
-        Operand::Initial(n) => held_arg(held, n, known.rows as usize * known.cols as usize),
+        Operand::Initial(n) => initial_map(first, n, known, held),
+        Operand::Drain(n) => codes(known, n),
         Operand::Time | Operand::Stack(_) | Operand::Now(_) | Operand::Last { .. } => {
             unreachable!()
         }
@@ -135,6 +162,7 @@ fn step_arg<'a>(
         Operand::Initial(n) => kept_arg(known.initial.as_slice(), n, program.initial.len(), places),
         Operand::Now(n) => held_arg(held, n, places),
         Operand::Last { dynamic, initial } => last_arg(program, known, step, dynamic, initial),
+        Operand::Drain(n) => codes(known, n),
     }
 }
 
@@ -151,7 +179,7 @@ pub fn arg<'a>(
     ensures spans { SpansPlaces result (known.now.rows * known.now.cols) }
 {
     match span {
-        Span::Initial { .. } => initial_arg(operand, program, known, held),
+        Span::Initial { first, .. } => initial_arg(operand, program, first, known, held),
         Span::Steps { first, .. } => step_arg(operand, program, first, known, held),
     }
 }

@@ -54,7 +54,7 @@ pub fn hold(held: &mut Items<Option<Map>>, last: &[u32], n: u32, map: Map) -> Re
     })
 }
 
-/// Keeps the map of the operation n at a step, where it is to be handed out.
+/// Keeps the map of the operation with this number in its section at a step, where it is to be handed out.
 pub fn keep(
     kept: &mut Items<StepMap>,
     step: u32,

@@ -1,23 +1,31 @@
 ghost use Rattle.std.specs.Prelude.{None, ⊤};
+ghost use Rattle.flow_task.specs.Kits.{KnowsAll};
+ghost use Rattle.map_meaning.specs.Table.{is_transport};
 
 use crate::stage::stage;
+use flow_task::FlowKit;
 use map_meaning::{BlockRunner, Known, Program, Span, StageEnd};
 use std::alloc::{AllocError, Global};
 use std::sync::Arc;
 
 /// Evaluates the operations of a span one by one over whole maps, on one thread and without waiting. Its spans have at
-/// most one step, and no program is too large for it.
-#[derive(Clone, Copy, Debug)]
-pub struct PlainRunner;
+/// most one step, and no program is too large for it. Transports are those of its kit.
+#[derive(Drop)]
+pub struct PlainRunner<K: FlowKit> {
+    kit: K,
+    ghost knows: { KnowsAll is_transport (K.known kit) },
+}
 
-impl PlainRunner {
-    /// A plain runner. It keeps nothing between its runs.
-    pub fn new() -> PlainRunner {
-        PlainRunner
+impl<K: FlowKit> PlainRunner<K> {
+    /// A plain runner with a kit that knows every transport that has a word. It keeps nothing between its runs.
+    pub fn new(kit: K) -> PlainRunner<K>
+        requires { KnowsAll is_transport (K.known kit) }
+    {
+        PlainRunner { kit }
     }
 }
 
-impl BlockRunner for PlainRunner {
+impl<K: FlowKit> BlockRunner for PlainRunner<K> {
     ghost ready = { λ _. ⊤ };
 
     ghost block_of = { λ _. 1 };
@@ -41,6 +49,6 @@ impl BlockRunner for PlainRunner {
         span: Span,
         known: &Arc<Known>,
     ) -> Result<StageEnd, AllocError> {
-        stage(alloc, program, span, known)
+        stage(alloc, self.kit, program, span, known)
     }
 }

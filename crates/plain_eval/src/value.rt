@@ -1,43 +1,18 @@
 ghost use Rattle.std.specs.Prelude.{◌≡◌, ◌<◌, ◌≤◌, ◌*◌, ℕ, IfOk};
-ghost use Rattle.map_meaning.specs.Evaluation.{operation_part, operation_value};
+ghost use Rattle.map_meaning.specs.Evaluation.{operation_value};
+ghost use Rattle.flow_task.specs.Kits.{KnowsAll};
 ghost use Rattle.map_meaning.specs.Overs.{over_at as five_numbers};
+ghost use Rattle.map_meaning.specs.Table.{is_transport};
 ghost use Rattle.map_meaning.specs.declared.program.Program.{Program as TheProgram};
-ghost use Rattle.plain_eval.specs.inside.Held.{AreThere, IsOneOf, done_of};
+ghost use Rattle.plain_eval.specs.inside.Held.{AreThere, IsOneOf, IsSound, done_of};
 ghost use Rattle.plain_eval.specs.inside.Sections.{scene_in};
 ghost use Rattle.text_base.specs.Limits.{most_cells};
 
-use crate::arg::arg;
+use crate::part::part;
 use crate::site::step_of;
-use crate::work::work;
-use cell_ops::cell_part;
+use flow_task::FlowKit;
 use map_meaning::{Known, Map, Operation, OverAt, Part, Program, Span};
 use std::alloc::{AllocError, Global};
-
-// The map of an operation with its first Over.
-fn part(
-    alloc: Global,
-    program: &Program,
-    operation: Operation,
-    span: Span,
-    known: &Known,
-    held: &[Option<Map>],
-) -> Result<Part, AllocError>
-    requires few { known.now.rows * known.now.cols ≤ most_cells }
-    requires operation { IsOneOf program.now known.now operation }
-    requires operands { AreThere program.now span known.now held.now operation }
-    ensures { IfOk result (λ part. part ≡ operation_part program.now (scene_in program.now span known.now) (done_of program.now span known.now held.now) operation) }
-{
-    let places = known.rows as usize * known.cols as usize;
-    cell_part(
-        alloc,
-        work(program, operation, step_of(span), known),
-        places,
-        arg(operation.a, program, span, known, held),
-        arg(operation.b, program, span, known, held),
-        arg(operation.c, program, span, known, held),
-        arg(operation.d, program, span, known, held),
-    )
-}
 
 // The five numbers of an Over at this place.
 fn over_at(span: Span, known: &Known, operation: Operation, place: u32) -> OverAt
@@ -55,21 +30,25 @@ fn over_at(span: Span, known: &Known, operation: Operation, place: u32) -> OverA
 }
 
 /// The map of an operation, or its first Over.
-pub fn value(
+pub fn value<K: FlowKit>(
     alloc: Global,
+    kit: K,
     program: &Program,
     operation: Operation,
     span: Span,
     known: &Known,
     held: &[Option<Map>],
 ) -> Result<Result<Map, OverAt>, AllocError>
-    requires some { 0 < known.now.cols }
+    requires kit { KnowsAll is_transport (K.known kit) }
+    requires some_rows { 0 < known.now.rows }
+    requires some_cols { 0 < known.now.cols }
     requires few { known.now.rows * known.now.cols ≤ most_cells }
     requires operation { IsOneOf program.now known.now operation }
     requires operands { AreThere program.now span known.now held.now operation }
+    requires sound { IsSound program.now (scene_in program.now span known.now) (done_of program.now span known.now held.now) operation }
     ensures { IfOk result (λ value. value ≡ operation_value program.now (scene_in program.now span known.now) (done_of program.now span known.now held.now) operation) }
 {
-    let Part { cells, over } = part(alloc, program, operation, span, known, held)?;
+    let Part { cells, over } = part(alloc, kit, program, operation, span, known, held)?;
     match over {
         Some(place) => Ok(Err(over_at(span, known, operation, place))),
         None => Ok(Ok(Map::new(alloc, cells)?)),

@@ -7,6 +7,8 @@ ghost use Rattle.map_meaning.specs.Scenes.{setting_at};
 ghost use Rattle.map_meaning.specs.Spans.{at_inputs, scene_of};
 ghost use Rattle.map_meaning.specs.Programs.{is_series_role, is_table_role};
 ghost use Rattle.plain_eval.specs.inside.Held.{HasSeries, HasTable, IsLookup, IsOneOf};
+ghost use Rattle.plain_eval.specs.inside.Scopes.{IsScopeOf};
+ghost use Rattle.plain_eval.specs.declared.scope.Scope.TheVariants.{Local};
 
 use crate::inputs::place_among;
 use cell_ops::CellWork;
@@ -34,11 +36,12 @@ fn kind_of(program: &Program, operand: Operand) -> Option<Kind>
             .dynamic
             .get(n as usize)
             .map(|operation| operation.kind),
+        Operand::Drain(n) => program.drains.get(n as usize).map(|_| Kind::Ldd),
     }
 }
 
-// The kind of an operand; a scalar where there is none.
-fn kind_or_scalar(program: &Program, operand: Operand) -> Kind
+/// The kind of an operand; a scalar where there is none.
+pub fn kind_or_scalar(program: &Program, operand: Operand) -> Kind
     ensures { result ≡ unwrap_or (operand_kind program.now operand) kind.Scalar }
 {
     kind_of(program, operand).unwrap_or(Kind::Scalar)
@@ -63,9 +66,9 @@ fn series<'a>(program: &Program, known: &'a Known, file: u32) -> &'a Series
 }
 
 // What a lookup computes at each place.
-#[tactic(auto, using(crate::proofs::Works::keys_are))]
 fn lookup<'a>(program: &Program, operation: Operation, known: &'a Known) -> CellWork<'a>
     requires operation { IsOneOf program.now known.now operation }
+    requires scope { IsScopeOf Local operation.op }
     requires table { HasTable program.now known.now operation.file }
     ensures { IsLookup program.now known.now operation result }
 {
@@ -80,7 +83,7 @@ fn lookup<'a>(program: &Program, operation: Operation, known: &'a Known) -> Cell
     }
 }
 
-/// What an operation computes at each place, at a step.
+/// What a local operation computes at each place, at a step.
 #[tactic(auto, using(crate::proofs::Works::first_kind))]
 pub fn work<'a>(
     program: &Program,
@@ -88,8 +91,9 @@ pub fn work<'a>(
     step: u32,
     known: &'a Known,
 ) -> CellWork<'a>
-    requires { IsOneOf program.now known.now operation }
-    ensures { IsWorkOf result operation.op (setting_at (scene_of program.now.inputs known.now step) operation.file (kinds_of program.now operation)) }
+    requires operation { IsOneOf program.now known.now operation }
+    requires scope { IsScopeOf Local operation.op }
+    ensures { IsWorkOf result operation.op (setting_at (scene_of program.now.inputs known.now step) operation.file operation.window (kinds_of program.now operation)) }
 {
     let from = kind_or_scalar(program, operation.a);
     match operation.op {

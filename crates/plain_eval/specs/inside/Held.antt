@@ -1,5 +1,5 @@
 -- The maps that are held between operations: those that a later operation reads.
-use Rattle.std.specs.Prelude.{◌≡◌, ◌<◌, ◌≤◌, ℕ, ◌*◌, ◌==◌, List, [], length, map, Option, Some, None, slice_index_or, ⊤, true, false}
+use Rattle.std.specs.Prelude.{◌≡◌, ◌<◌, ◌≤◌, ℕ, ◌-◌, ◌*◌, ◌==◌, List, [], ◌++◌, length, map, Option, Some, None, slice_get, slice_index_or, ⊤, true, false}
 use Rattle.cell_ops.specs.declared.work.CellWork.{CellWork}
 use Rattle.cell_ops.specs.declared.work.CellWork.TheVariants.{Lookup}
 use Rattle.tile_map.specs.Parts.{tabulate}
@@ -7,22 +7,23 @@ use Rattle.map_meaning.specs.declared.known.Known.{Known}
 use Rattle.map_meaning.specs.declared.known.Span.{Span}
 use Rattle.map_meaning.specs.declared.known.Span.TheVariants as span
 use Rattle.map_meaning.specs.declared.program.Operand.{Operand}
-use Rattle.map_meaning.specs.declared.program.Operand.TheVariants.{Time, Input, Stack, Initial, Now, Last}
+use Rattle.map_meaning.specs.declared.program.Operand.TheVariants.{Time, Input, Stack, Initial, Now, Last, Drain}
 use Rattle.map_meaning.specs.declared.program.Operation.{Operation}
 use Rattle.map_meaning.specs.declared.program.Program.{Program}
-use Rattle.map_meaning.specs.Evaluation.{Done}
+use Rattle.map_meaning.specs.Evaluation.{Done, operand_cell}
 use Rattle.map_meaning.specs.Maps.{WholeMap, nth}
 use Rattle.cell_values.specs.declared.kind.Kind.{Kind}
+use Rattle.cell_values.specs.Kinds.{IsCell}
 use Rattle.map_meaning.specs.declared.known.StepMap.{StepMap}
 use Rattle.map_meaning.specs.declared.program.Role.{Role}
 use Rattle.map_meaning.specs.declared.program.Role.TheVariants.{Table, Series}
-use Rattle.map_meaning.specs.Programs.{are_used_first, file_role, is_grid_role, is_series_role, is_table_role}
+use Rattle.map_meaning.specs.Programs.{IsOperationOf, are_used_first, file_role, is_grid_role, is_series_role, is_table_role}
 use Rattle.map_meaning.specs.Programs.{is_unused, kinds_of, operand_kind, operands_of}
 use Rattle.map_meaning.specs.Limits.{most_inputs}
 use Rattle.map_meaning.specs.Rules.{kind_at, no_series, no_table}
-use Rattle.map_meaning.specs.Table.{HasKinds, map_row, row_of}
-use Rattle.map_meaning.specs.Scenes.{map_at_step}
-use Rattle.map_meaning.specs.Spans.{AreAscending, at_inputs, kept_map}
+use Rattle.map_meaning.specs.Table.{HasKinds, goes_along_drains, map_row, row_of}
+use Rattle.map_meaning.specs.Scenes.{Scene, map_at_step, place_count}
+use Rattle.map_meaning.specs.Spans.{AreAscending, IsDrainOf, at_inputs, kept_map, known_codes}
 use Rattle.plain_eval.specs.inside.Inputs.{many_before}
 
 -- a map, or an empty one where it was let go
@@ -30,9 +31,14 @@ abbrev pub or_empty : Option WholeMap → WholeMap
 or_empty None = []
 or_empty (Some m) = m
 
--- what is done in `initial`
-abbrev pub initial_done : List (Option WholeMap) → Done
-initial_done held = record { initial = map or_empty held; dynamic = []; last = [] }
+-- what is done in a stage of `initial` that begins at first
+abbrev pub initial_done : ℕ → Known → List (Option WholeMap) → Done
+initial_done first known held = record {
+  initial = tabulate (kept_map known.initial) first ++ map or_empty held;
+  dynamic = [];
+  last = [];
+  drains = known_codes known;
+}
 
 -- what is done in a step
 abbrev pub step_done : Program → Known → List (Option WholeMap) → Done
@@ -40,14 +46,15 @@ step_done program known held = record {
   initial = tabulate (kept_map known.initial) (length program.initial);
   dynamic = map or_empty held;
   last = tabulate (kept_map known.last) (length program.dynamic);
+  drains = known_codes known;
 }
 
 -- the maps of the operations that are done, where one that was let go counts as empty
 abbrev pub done_of : Program → Span → Known → List (Option WholeMap) → Done
-done_of program (span.Initial first end) known held = initial_done held
+done_of program (span.Initial first end) known held = initial_done first known held
 done_of program (span.Steps first last) known held = step_done program known held
 
--- the map of the operation k, where it is held
+-- the map of the operation k of the span, where it is held
 abbrev pub held_at : List (Option WholeMap) → ℕ → Option WholeMap
 held_at held k = slice_index_or held k None
 
@@ -81,15 +88,25 @@ pub record HasLast (program : Program) (step : ℕ) (known : Known) (dynamic ini
   pub begun : (step == 1) ≡ true → HasKept (known.rows * known.cols) known.initial (length program.initial) initial
   pub carried : (step == 1) ≡ false → HasKept (known.rows * known.cols) known.last (length program.dynamic) dynamic
 
--- the map that an operand of `initial` names is there
-abbrev pub IsThereInitially : Program → Known → List (Option WholeMap) → Operand → Type 0
-IsThereInitially program known held (Input n) = HasGrid program known n
-IsThereInitially program known held (Initial n) = HasHeld (known.rows * known.cols) held n
-IsThereInitially program known held Time = ⊥
-IsThereInitially program known held (Stack n) = ⊥
-IsThereInitially program known held (Now n) = ⊥
-IsThereInitially program known held (Last dynamic initial) = ⊥
-IsThereInitially program known held _ = ⊤
+-- the map of an operation of `initial` is known where it stands before the stage, and held where it stands in it
+pub record HasInitial (first : ℕ) (known : Known) (held : List (Option WholeMap)) (n : ℕ) : Type 0 where
+  pub before : n < first → HasKept (known.rows * known.cols) known.initial first n
+  pub within : first ≤ n → HasHeld (known.rows * known.cols) held (n - first)
+
+-- the drain map with the number n is known, with so many rows and columns
+abbrev pub HasDrainMap : Known → ℕ → Type 0
+HasDrainMap known n = IsDrainOf known.rows known.cols (slice_get known.drains n)
+
+-- the map that an operand names in a stage of `initial` that begins at first is there
+abbrev pub IsThereInitially : Program → ℕ → Known → List (Option WholeMap) → Operand → Type 0
+IsThereInitially program first known held (Input n) = HasGrid program known n
+IsThereInitially program first known held (Initial n) = HasInitial first known held n
+IsThereInitially program first known held (Drain n) = HasDrainMap known n
+IsThereInitially program first known held Time = ⊥
+IsThereInitially program first known held (Stack n) = ⊥
+IsThereInitially program first known held (Now n) = ⊥
+IsThereInitially program first known held (Last dynamic initial) = ⊥
+IsThereInitially program first known held _ = ⊤
 
 -- the map that an operand of `dynamic` names is there
 abbrev pub IsThereAtStep : Program → ℕ → Known → List (Option WholeMap) → Operand → Type 0
@@ -98,11 +115,12 @@ IsThereAtStep program step known held (Stack n) = length (map_at_step known.stac
 IsThereAtStep program step known held (Initial n) = HasKept (known.rows * known.cols) known.initial (length program.initial) n
 IsThereAtStep program step known held (Now n) = HasHeld (known.rows * known.cols) held n
 IsThereAtStep program step known held (Last dynamic initial) = HasLast program step known dynamic initial
+IsThereAtStep program step known held (Drain n) = HasDrainMap known n
 IsThereAtStep program step known held _ = ⊤
 
 -- the map that an operand names is there, with all its cells
 abbrev pub IsThere : Program → Span → Known → List (Option WholeMap) → Operand → Type 0
-IsThere program (span.Initial first end) known held operand = IsThereInitially program known held operand
+IsThere program (span.Initial first end) known held operand = IsThereInitially program first known held operand
 IsThere program (span.Steps first last) known held operand = IsThereAtStep program first known held operand
 
 -- the maps that an operation reads are there
@@ -111,10 +129,21 @@ pub record AreThere (program : Program) (s : Span) (known : Known) (held : List 
   pub b : IsThere program s known held o.b
   pub c : IsThere program s known held o.c
   pub d : IsThere program s known held o.d
+  pub drain : goes_along_drains o.op ≡ true → HasDrainMap known o.drain
 
 -- an operand that is there has a kind
 abbrev pub HasItsKind : Program → Operand → Type 0
 HasItsKind program operand = is_unused operand ≡ false → (kind : Kind) × (operand_kind program operand ≡ Some kind)
+
+-- the operand has a kind where it is one, and a cell of this kind at each place
+pub record HasItsCells (program : Program) (scene : Scene) (done : Done) (operand : Operand) : Type 0 where
+  pub kind : HasItsKind program operand
+  pub cells : (place : ℕ) (kind : Kind) → operand_kind program operand ≡ Some kind → place < place_count scene →
+      IsCell kind (operand_cell scene done operand place)
+
+-- the operands of an operation have cells of kinds that the table of operations allows, and it has what else it needs
+abbrev pub IsSound : Program → Scene → Done → Operation → Type 0
+IsSound program scene done o = IsOperationOf program (HasItsCells program scene done) o.kept o
 
 -- the table of an operation is known, at its place among the tables
 pub record HasTable (program : Program) (known : Known) (n : ℕ) : Type 0 where
@@ -145,6 +174,7 @@ pub record IsOneOf (program : Program) (known : Known) (o : Operation) : Type 0 
   pub b : HasItsKind program o.b
   pub c : HasItsKind program o.c
   pub d : HasItsKind program o.d
+  pub drain : goes_along_drains o.op ≡ true → HasItsKind program (Drain o.drain)
   pub kinds : HasKinds (map_row (row_of o.op)) (kinds_of program o) o.kind
   pub file : HasFile program known (file_role o.op (length (kinds_of program o))) o.file
 

@@ -7,7 +7,7 @@ use Rattle.map_meaning.specs.declared.program.Operation.{Operation}
 use Rattle.map_meaning.specs.Programs.{operands_of}
 use Rattle.plain_eval.specs.inside.Sections.{is_own, own_number}
 
--- the operation reads the map of the operation k of the span's section
+-- the operation reads the map of the operation k of the span
 abbrev pub reads : Span → ℕ → Operation → Bool
 reads s k o = list_any (is_own s k) (operands_of o)
 

@@ -12,7 +12,7 @@ use Rattle.plain_eval.proofs.Parts.{over_below}
 use Rattle.plain_eval.proofs.value.value.Goals as goal
 
 pub over_at-requires-clause-few : goal.over_at-requires-clause-few
-over_at-requires-clause-few c =
+over_at-requires-clause-few g c =
     let known = c.args.known.now in
     let program = c.args.program.now in
     let scene = scene_in program c.args.span known in
@@ -22,7 +22,7 @@ over_at-requires-clause-few c =
     omega (arith, below, c.requires.few)
 
 pub returns-in-Some : goal.returns-in-Some
-returns-in-Some c =
+returns-in-Some g c =
     let program = c.args.program.now in
     let o = c.args.operation in
     let scene = scene_in program c.args.span c.args.known.now in
