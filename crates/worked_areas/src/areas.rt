@@ -1,10 +1,10 @@
 //! Operations over areas, a row a map.
 
 use crate::parts::{Classes, in_one, in_two};
-use region_meaning::AreaOp;
-use region_meaning::AreaOp::{Area, Average, Diversity, Majority, Maximum, Minimum, Total};
 use cell_values::Cell;
 use cell_values::Cell::{Mv, Val};
+use region_meaning::AreaOp;
+use region_meaning::AreaOp::{Area, Average, Diversity, Majority, Maximum, Minimum, Total};
 use std::alloc::Global;
 use std::test::Fail;
 

@@ -4,9 +4,9 @@ ghost use Rattle.std.specs.Prelude.{◌≡◌, ◌+◌, ◌≤◌, length, IfOk}
 ghost use Rattle.text_base.specs.Limits.{most_cells};
 
 use area_ops::Partial;
-use region_meaning::AreaOp;
 use cell_values::Cell;
 use cell_values::Cell::Val;
+use region_meaning::AreaOp;
 use std::alloc::Global;
 use std::test::Fail;
 use tile_map::{Arg, Part};

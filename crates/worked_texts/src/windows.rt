@@ -3,11 +3,11 @@
 use crate::tiles::{Sides, is_in_map, paste, tiling};
 use cell_values::Cell;
 use cell_values::Cell::{Mv, Val};
+use region_meaning::WindowOp;
+use region_meaning::WindowOp::{Average, Diversity, Majority, Maximum, Minimum, Total};
 use std::alloc::Global;
 use std::test::Fail;
 use tile_map::{Part, Rect, Tiling};
-use region_meaning::WindowOp::{Average, Diversity, Majority, Maximum, Minimum, Total};
-use region_meaning::WindowOp;
 use window_ops::window_part;
 
 /// One.
