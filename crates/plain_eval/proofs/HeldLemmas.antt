@@ -37,7 +37,7 @@ use Rattle.map_meaning.specs.Table.{goes_along_drains}
 use Rattle.map_meaning.proofs.WholeMaps.{IsReadFirst, IsReadNow, cell_in, codes_known, drain_use_of, input_item, input_there, map_whole, operation_of, read_first, read_now, scene_inputs, stage_length, step_operation_of, there}
 use Rattle.map_meaning.proofs.Tabulated.{nth_tabulate, tabulate_count}
 use Rattle.plain_eval.specs.inside.Finished.{LetsGo}
-use Rattle.plain_eval.specs.inside.Held.{AreThere, HasDrainMap, HasFile, HasGrid, HasItsCells, HasKept, HasSeries, HasTable, IsHeld, IsOneOf, IsSound, IsThereAtStep, IsThereInitially, done_of, held_at, initial_done, or_empty, step_done}
+use Rattle.plain_eval.specs.inside.Held.{AreThere, HasDrainMap, HasFile, HasGrid, HasItsCells, HasKept, HasSeries, HasTable, IsHeld, IsOneOf, HasSoundOperands, IsThereAtStep, IsThereInitially, done_of, held_at, initial_done, or_empty, step_done}
 use Rattle.plain_eval.specs.inside.Readers.{AreLastReaders, IsNumberBelow, NamesBelow, ReadsBelow, reads}
 use Rattle.plain_eval.specs.inside.Sections.{is_own, scene_in, step_of}
 use Rattle.plain_eval.proofs.InputLemmas.{at_place}
@@ -473,11 +473,11 @@ named_d s k o named = or_right (is_own s k o.a) _ (or_right (is_own s k o.b) _ (
 -- what an operation reads is there, it is one of the program's, and its operands have cells of their kinds
 pub record OperationIs (program : Program) (s : Span) (known : Known) (held : List (Option WholeMap)) (o : Operation) : Type 0 where
   pub there : AreThere program s known held o
-  pub sound : IsSound program (scene_in program s known) (done_of program s known held) o
+  pub sound : HasSoundOperands program (scene_in program s known) (done_of program s known held) o
   pub one : IsOneOf program known o
 
 -- an operation whose operands have cells is one of the program's
-one_of : (program : Program) (s : Span) (known : Known) (scene : Scene) (done : Done) (o : Operation) → IsWellFormed program → Knows program s known → IsSound program scene done o → IsOneOf program known o
+one_of : (program : Program) (s : Span) (known : Known) (scene : Scene) (done : Done) (o : Operation) → IsWellFormed program → Knows program s known → HasSoundOperands program scene done o → IsOneOf program known o
 one_of program s known scene done o formed knows is = record {
   used = is.used;
   a = is.a.kind;
@@ -525,7 +525,7 @@ operation_is program (span.Initial first end) known n held last d formed is_span
         let c = read o.c is.c (λ k p named. held_for same k p (named_c s k o named)) in
         let e = read o.d is.d (λ k p named. held_for same k p (named_d s k o named)) in
         let drain : goes_along_drains o.op ≡ true → HasDrainMap known o.drain × HasItsCells program (scene_of program.inputs known 0) (initial_done first known held) (Drain o.drain) = λ along. read (Drain o.drain) (is.drain along) (λ k p named. absurd (cc)) in
-        let sound : IsSound program (scene_of program.inputs known 0) (initial_done first known held) o = record { a = a.1; b = b.1; c = c.1; d = e.1; used = is.used; kinds = is.kinds; drain = λ along. (drain along).1; window = is.window; file = is.file; kept = is.kept } in
+        let sound : HasSoundOperands program (scene_of program.inputs known 0) (initial_done first known held) o = record { a = a.1; b = b.1; c = c.1; d = e.1; used = is.used; kinds = is.kinds; drain = λ along. (drain along).1; window = is.window; file = is.file; kept = is.kept } in
         record {
           there = record { a = a.0; b = b.0; c = c.0; d = e.0; drain = λ along. (drain along).0 };
           sound = sound;
@@ -544,7 +544,7 @@ operation_is program (span.Steps first end) known n held last d formed is_span k
     let c = read o.c is.c (λ k p named. held_for k p (named_c s k o named)) in
     let e = read o.d is.d (λ k p named. held_for k p (named_d s k o named)) in
     let drain : goes_along_drains o.op ≡ true → HasDrainMap known o.drain × HasItsCells program (scene_of program.inputs known first) (step_done program known held) (Drain o.drain) = λ along. read (Drain o.drain) (is.drain along) (λ k p named. absurd (cc)) in
-    let sound : IsSound program (scene_of program.inputs known first) (step_done program known held) o = record { a = a.1; b = b.1; c = c.1; d = e.1; used = is.used; kinds = is.kinds; drain = λ along. (drain along).1; window = is.window; file = is.file; kept = is.kept } in
+    let sound : HasSoundOperands program (scene_of program.inputs known first) (step_done program known held) o = record { a = a.1; b = b.1; c = c.1; d = e.1; used = is.used; kinds = is.kinds; drain = λ along. (drain along).1; window = is.window; file = is.file; kept = is.kept } in
     record {
       there = record { a = a.0; b = b.0; c = c.0; d = e.0; drain = λ along. (drain along).0 };
       sound = sound;
@@ -552,7 +552,7 @@ operation_is program (span.Steps first end) known n held last d formed is_span k
     }
 
 -- the map of such an operation is whole
-pub whole_map : (program : Program) (s : Span) (known : Known) (held : List (Option WholeMap)) (o : Operation) → Knows program s known → IsSound program (scene_in program s known) (done_of program s known held) o →
+pub whole_map : (program : Program) (s : Span) (known : Known) (held : List (Option WholeMap)) (o : Operation) → Knows program s known → HasSoundOperands program (scene_in program s known) (done_of program s known held) o →
     IsMapOf (known.rows * known.cols) o.kind (operation_part program (scene_in program s known) (done_of program s known held) o).cells
 whole_map program s known held o knows is =
     map_whole program (scene_in program s known) (done_of program s known held) (scene_inputs program known (step_of s) knows.few knows.maps knows.tables knows.series) (HasItsCells program (scene_in program s known) (done_of program s known held))

@@ -16,7 +16,7 @@ use Rattle.map_meaning.specs.Scenes.{Scene}
 use Rattle.map_meaning.specs.Spans.{Knows, first_operation, span_operations}
 use Rattle.plain_eval.specs.inside.Sections.{scene_in, step_of}
 use Rattle.plain_eval.specs.inside.Finished.{LetsGo, with_kept}
-use Rattle.plain_eval.specs.inside.Held.{IsSound, done_of, held_at}
+use Rattle.plain_eval.specs.inside.Held.{HasSoundOperands, done_of, held_at}
 use Rattle.plain_eval.specs.inside.Readers.{AreLastReaders}
 use Rattle.plain_eval.proofs.HeldLemmas.{AreWhole, IsStep, step_held, step_length, step_only, step_same, whole_map}
 use Rattle.plain_eval.proofs.ReaderLemmas.{last_one_reads}
@@ -77,12 +77,12 @@ module _ (program : Program) (s : Span) (known : Known) (operations : List Opera
 
     -- and each map that is read later is held, whole
     pub next_held : (m : WholeMap) (last : List ℕ) (between after : List (Option WholeMap)) → Knows program s known → r ≡ Ok m → IsStep s last n (get_or operations n d) m before between after →
-        IsSound program scene (done_of program s known before) (get_or own n d) → AreWhole (known.rows * known.cols) own last n before → AreWhole (known.rows * known.cols) own last (n + 1) after
+        HasSoundOperands program scene (done_of program s known before) (get_or own n d) → AreWhole (known.rows * known.cols) own last n before → AreWhole (known.rows * known.cols) own last (n + 1) after
     next_held m last between after knows is step sound there =
         let o = get_or operations n d in
         let here : slice_get own n ≡ Some o = ap (λ (x : List Operation). slice_get x n) (sym same) ∙ slice_get-get_or operations n d within in
         let cells = map_is program scene (done_of program s known before) o m (value_is ∙ is) in
-        step_held s last n o m before between after step (known.rows * known.cols) own here (subst (IsMapOf (known.rows * known.cols) o.kind) cells (whole_map program s known before o knows (subst (λ (x : List Operation). IsSound program scene (done_of program s known before) (get_or x n d)) (sym same) sound))) there
+        step_held s last n o m before between after step (known.rows * known.cols) own here (subst (IsMapOf (known.rows * known.cols) o.kind) cells (whole_map program s known before o knows (subst (λ (x : List Operation). HasSoundOperands program scene (done_of program s known before) (get_or x n d)) (sym same) sound))) there
 
 -- and no other map is
 pub next_only : (s : Span) (operations : List Operation) (d : Operation) (last : List ℕ) (n : ℕ) (m : WholeMap) (before between after : List (Option WholeMap)) → n < length operations → AreLastReaders s operations last → IsStep s last n (get_or operations n d) m before between after →

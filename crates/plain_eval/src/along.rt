@@ -11,7 +11,7 @@ ghost use Rattle.tile_map.specs.Args.{SpansPlaces, arg_cell};
 ghost use Rattle.tile_map.specs.Cuts.{cell_at};
 ghost use Rattle.tile_map.specs.Parts.{part_of};
 ghost use Rattle.map_meaning.specs.Evaluation.{operation_part};
-ghost use Rattle.plain_eval.specs.inside.Held.{AreThere, IsOneOf, IsSound, done_of};
+ghost use Rattle.plain_eval.specs.inside.Held.{AreThere, IsOneOf, HasSoundOperands, done_of};
 ghost use Rattle.plain_eval.specs.inside.Scopes.{IsScopeOf};
 ghost use Rattle.plain_eval.specs.inside.Sections.{scene_in};
 ghost use Rattle.text_base.specs.Limits.{most_cells};
@@ -60,7 +60,7 @@ pub fn near(
     requires some { 0 < known.now.cols }
     requires few { known.now.rows * known.now.cols ≤ most_cells }
     requires operands { AreThere program.now span known.now held.now operation }
-    requires sound { IsSound program.now (scene_in program.now span known.now) (done_of program.now span known.now held.now) operation }
+    requires sound { HasSoundOperands program.now (scene_in program.now span known.now) (done_of program.now span known.now held.now) operation }
     ensures { IfOk result (λ part. part ≡ operation_part program.now (scene_in program.now span known.now) (done_of program.now span known.now held.now) operation) }
 {
     let places = known.rows as usize * known.cols as usize;
@@ -104,7 +104,7 @@ pub fn transport<K: FlowKit>(
     requires few { known.now.rows * known.now.cols ≤ most_cells }
     requires operation { IsOneOf program.now known.now operation }
     requires operands { AreThere program.now span known.now held.now operation }
-    requires sound { IsSound program.now (scene_in program.now span known.now) (done_of program.now span known.now held.now) operation }
+    requires sound { HasSoundOperands program.now (scene_in program.now span known.now) (done_of program.now span known.now held.now) operation }
     ensures { IfOk result (λ part. part ≡ operation_part program.now (scene_in program.now span known.now) (done_of program.now span known.now held.now) operation) }
 {
     let places = known.rows as usize * known.cols as usize;

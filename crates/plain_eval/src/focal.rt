@@ -4,7 +4,7 @@ ghost use Rattle.std.specs.Prelude.{◌≡◌, ◌<◌, ◌≤◌, ◌*◌, leng
 ghost use Rattle.region_meaning.specs.Windows.{longest_reach, window_outcome};
 ghost use Rattle.tile_map.specs.Parts.{part_of};
 ghost use Rattle.map_meaning.specs.Evaluation.{operation_part};
-ghost use Rattle.plain_eval.specs.inside.Held.{AreThere, IsSound, done_of};
+ghost use Rattle.plain_eval.specs.inside.Held.{AreThere, HasSoundOperands, done_of};
 ghost use Rattle.plain_eval.specs.inside.Scopes.{IsScopeOf};
 ghost use Rattle.plain_eval.specs.inside.Sections.{scene_in};
 ghost use Rattle.text_base.specs.Limits.{most_cells};
@@ -58,7 +58,7 @@ pub fn focal(
     requires some { 0 < known.now.cols }
     requires few { known.now.rows * known.now.cols ≤ most_cells }
     requires operands { AreThere program.now span known.now held.now operation }
-    requires sound { IsSound program.now (scene_in program.now span known.now) (done_of program.now span known.now held.now) operation }
+    requires sound { HasSoundOperands program.now (scene_in program.now span known.now) (done_of program.now span known.now held.now) operation }
     ensures { IfOk result (λ part. part ≡ operation_part program.now (scene_in program.now span known.now) (done_of program.now span known.now held.now) operation) }
 {
     let places = known.rows as usize * known.cols as usize;

@@ -2,7 +2,7 @@
 
 ghost use Rattle.std.specs.Prelude.{◌≡◌, ◌≤◌, ◌*◌, IfOk};
 ghost use Rattle.map_meaning.specs.Evaluation.{operation_part};
-ghost use Rattle.plain_eval.specs.inside.Held.{AreThere, IsOneOf, IsSound, done_of};
+ghost use Rattle.plain_eval.specs.inside.Held.{AreThere, IsOneOf, HasSoundOperands, done_of};
 ghost use Rattle.plain_eval.specs.inside.Scopes.{IsScopeOf};
 ghost use Rattle.plain_eval.specs.inside.Sections.{scene_in};
 ghost use Rattle.text_base.specs.Limits.{most_cells};
@@ -28,7 +28,7 @@ pub fn local(
     requires few { known.now.rows * known.now.cols ≤ most_cells }
     requires operation { IsOneOf program.now known.now operation }
     requires operands { AreThere program.now span known.now held.now operation }
-    requires sound { IsSound program.now (scene_in program.now span known.now) (done_of program.now span known.now held.now) operation }
+    requires sound { HasSoundOperands program.now (scene_in program.now span known.now) (done_of program.now span known.now held.now) operation }
     ensures { IfOk result (λ part. part ≡ operation_part program.now (scene_in program.now span known.now) (done_of program.now span known.now held.now) operation) }
 {
     let places = known.rows as usize * known.cols as usize;

@@ -4,7 +4,7 @@ ghost use Rattle.std.specs.Prelude.{◌≡◌, ◌<◌, ◌≤◌, ◌*◌, IfOk
 ghost use Rattle.flow_task.specs.Kits.{KnowsAll};
 ghost use Rattle.map_meaning.specs.Evaluation.{operation_part};
 ghost use Rattle.map_meaning.specs.Table.{is_transport};
-ghost use Rattle.plain_eval.specs.inside.Held.{AreThere, IsOneOf, IsSound, done_of};
+ghost use Rattle.plain_eval.specs.inside.Held.{AreThere, IsOneOf, HasSoundOperands, done_of};
 ghost use Rattle.plain_eval.specs.inside.Sections.{scene_in};
 ghost use Rattle.text_base.specs.Limits.{most_cells};
 
@@ -33,7 +33,7 @@ pub fn part<K: FlowKit>(
     requires few { known.now.rows * known.now.cols ≤ most_cells }
     requires operation { IsOneOf program.now known.now operation }
     requires operands { AreThere program.now span known.now held.now operation }
-    requires sound { IsSound program.now (scene_in program.now span known.now) (done_of program.now span known.now held.now) operation }
+    requires sound { HasSoundOperands program.now (scene_in program.now span known.now) (done_of program.now span known.now held.now) operation }
     ensures { IfOk result (λ part. part ≡ operation_part program.now (scene_in program.now span known.now) (done_of program.now span known.now held.now) operation) }
 {
     match scope_of(operation.op) {

@@ -6,7 +6,7 @@ ghost use Rattle.region_meaning.specs.AreaResults.{area_outcome};
 ghost use Rattle.tile_map.specs.Args.{SpansPlaces, arg_cell};
 ghost use Rattle.tile_map.specs.Parts.{part_of};
 ghost use Rattle.map_meaning.specs.Evaluation.{operation_part};
-ghost use Rattle.plain_eval.specs.inside.Held.{AreThere, IsSound, done_of};
+ghost use Rattle.plain_eval.specs.inside.Held.{AreThere, HasSoundOperands, done_of};
 ghost use Rattle.plain_eval.specs.inside.Scopes.{IsScopeOf};
 ghost use Rattle.plain_eval.specs.inside.Sections.{scene_in};
 ghost use Rattle.text_base.specs.Limits.{most_cells};
@@ -49,7 +49,7 @@ pub fn zonal(
     requires scope { IsScopeOf (Zonal op) operation.op }
     requires few { known.now.rows * known.now.cols ≤ most_cells }
     requires operands { AreThere program.now span known.now held.now operation }
-    requires sound { IsSound program.now (scene_in program.now span known.now) (done_of program.now span known.now held.now) operation }
+    requires sound { HasSoundOperands program.now (scene_in program.now span known.now) (done_of program.now span known.now held.now) operation }
     ensures { IfOk result (λ part. part ≡ operation_part program.now (scene_in program.now span known.now) (done_of program.now span known.now held.now) operation) }
 {
     areas(
@@ -73,7 +73,7 @@ pub fn zone_size(
     requires scope { IsScopeOf ZoneSize operation.op }
     requires few { known.now.rows * known.now.cols ≤ most_cells }
     requires operands { AreThere program.now span known.now held.now operation }
-    requires sound { IsSound program.now (scene_in program.now span known.now) (done_of program.now span known.now held.now) operation }
+    requires sound { HasSoundOperands program.now (scene_in program.now span known.now) (done_of program.now span known.now held.now) operation }
     ensures { IfOk result (λ part. part ≡ operation_part program.now (scene_in program.now span known.now) (done_of program.now span known.now held.now) operation) }
 {
     areas(
@@ -98,7 +98,7 @@ pub fn global(
     requires scope { IsScopeOf (TheGlobal op) operation.op }
     requires few { known.now.rows * known.now.cols ≤ most_cells }
     requires operands { AreThere program.now span known.now held.now operation }
-    requires sound { IsSound program.now (scene_in program.now span known.now) (done_of program.now span known.now held.now) operation }
+    requires sound { HasSoundOperands program.now (scene_in program.now span known.now) (done_of program.now span known.now held.now) operation }
     ensures { IfOk result (λ part. part ≡ operation_part program.now (scene_in program.now span known.now) (done_of program.now span known.now held.now) operation) }
 {
     areas(

@@ -1,5 +1,6 @@
 -- The maps that are held between operations: those that a later operation reads.
-use Rattle.std.specs.Prelude.{◌≡◌, ◌<◌, ◌≤◌, ℕ, ◌-◌, ◌*◌, ◌==◌, List, [], ◌++◌, length, map, Option, Some, None, slice_get, slice_index_or, ⊤, true, false}
+use Rattle.std.specs.Prelude.{◌≡◌, ◌<◌, ◌≤◌, ℕ, ◌-◌, ◌*◌, ◌==◌, List, [], ◌++◌}
+use Rattle.std.specs.Prelude.{length, map, Option, Some, None, slice_get, slice_index_or, ⊤, true, false}
 use Rattle.cell_ops.specs.declared.work.CellWork.{CellWork}
 use Rattle.cell_ops.specs.declared.work.CellWork.TheVariants.{Lookup}
 use Rattle.tile_map.specs.Parts.{tabulate}
@@ -142,8 +143,8 @@ pub record HasItsCells (program : Program) (scene : Scene) (done : Done) (operan
       IsCell kind (operand_cell scene done operand place)
 
 -- the operands of an operation have cells of kinds that the table of operations allows, and it has what else it needs
-abbrev pub IsSound : Program → Scene → Done → Operation → Type 0
-IsSound program scene done o = IsOperationOf program (HasItsCells program scene done) o.kept o
+abbrev pub HasSoundOperands : Program → Scene → Done → Operation → Type 0
+HasSoundOperands program scene done o = IsOperationOf program (HasItsCells program scene done) o.kept o
 
 -- the table of an operation is known, at its place among the tables
 pub record HasTable (program : Program) (known : Known) (n : ℕ) : Type 0 where
