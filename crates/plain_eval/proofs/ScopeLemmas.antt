@@ -89,7 +89,7 @@ module _ (program : Program) (scene : Scene) (done : Done) (o : Operation) where
       ap (λ (d : DrainMap). part_of (near_outcome n d (cell_at (tabulate (cell o.a) places))) places) same ∙ along_means (rule.Near n) is along
 
   -- a transport
-  pub transport_means : (f : FlowOp) (m : DrainMap) (kind : Kind) → rule_of o.op ≡ rule.Transport f → goes_along_drains o.op ≡ true → IsDrain m → m ≡ drain_by setting (cell (Drain o.drain)) → length m.codes ≡ places →
+  pub transport_means : (f : FlowOp) (m : DrainMap) (kind : Kind) → rule_of o.op ≡ rule.Along f → goes_along_drains o.op ≡ true → IsDrain m → m ≡ drain_by setting (cell (Drain o.drain)) → length m.codes ≡ places →
       kind ≡ kind_at (kinds_of program o) 1 → part_of (transport_outcome (transport_of f) kind m (cell o.a) (cell o.b)) (length m.codes) ≡ operation_part program scene done o
   transport_means f m kind is along sound same size carried =
       let t = transport_of f in
@@ -103,7 +103,7 @@ module _ (program : Program) (scene : Scene) (done : Done) (o : Operation) where
       ∙ (ap (part_of (transport_outcome t kind m a b)) size
       ∙ (ap (λ (d : DrainMap). part_of (transport_outcome t kind d a b) places) same
       ∙ (ap (λ (k : Kind). part_of (transport_outcome t k (drain_by setting (cell (Drain o.drain))) a b) places) carried
-      ∙ along_means (rule.Transport f) is along)))
+      ∙ along_means (rule.Along f) is along)))
 
 -- ---- cells in range
 
@@ -150,7 +150,7 @@ worded flow.Catchment kinds kind h = refl
 worded f kinds kind h = let parts = and_parts (nat_le 1 (length kinds)) (nat_le (length kinds) 0) h.count in absurd (grind (arith, parts.0, parts.1))
 
 -- so has that of an operation of a program
-pub has_word : (f : FlowOp) (o : Op) (kinds : List Kind) (kind : Kind) → rule_of o ≡ rule.Transport f → HasKinds (map_row (row_of o)) kinds kind → is_transport f ≡ true
+pub has_word : (f : FlowOp) (o : Op) (kinds : List Kind) (kind : Kind) → rule_of o ≡ rule.Along f → HasKinds (map_row (row_of o)) kinds kind → is_transport f ≡ true
 unfolding rule_of
 has_word f (op.Flow g) kinds kind is h = let same : g ≡ f = cc in subst (λ (x : FlowOp). is_transport x ≡ true) same (worded g kinds kind h)
 has_word f o kinds kind is h = absurd (cc)

@@ -25,7 +25,7 @@ IsScopeOf (Zonal a) o = (rule_of o ≡ rule.Zonal a) × (goes_along_drains o ≡
 IsScopeOf ZoneSize o = (rule_of o ≡ rule.ZoneSize) × (goes_along_drains o ≡ false)
 IsScopeOf (Global a) o = (rule_of o ≡ rule.Global a) × (goes_along_drains o ≡ false)
 IsScopeOf (Near n) o = (rule_of o ≡ rule.Near n) × (goes_along_drains o ≡ true)
-IsScopeOf (Transport f) o = (rule_of o ≡ rule.Transport f) × (goes_along_drains o ≡ true)
+IsScopeOf (Transport f) o = (rule_of o ≡ rule.Along f) × (goes_along_drains o ≡ true)
 
 -- the map that is made for an operand over so many places: none where the operand has cells
 abbrev pub IsMadeFor : Arg → ℕ → List Cell → Type 0
