@@ -10,7 +10,7 @@ use Rattle.map_meaning.specs.declared.program.OutputKind.TheVariants.{InitialGri
 use Rattle.map_meaning.specs.declared.program.OutputUse.{OutputUse}
 use Rattle.map_meaning.specs.declared.program.Program.{Program}
 use Rattle.map_meaning.specs.declared.program.Operand.{Operand}
-use Rattle.map_meaning.specs.declared.program.Operand.TheVariants.{Unused, Literal, Time, Input, Initial, Now, Last}
+use Rattle.map_meaning.specs.declared.program.Operand.TheVariants.{Unused, Literal, Time, Input, Initial, Now, Last, Drain}
 use Rattle.map_meaning.specs.declared.program.Operand.TheVariants as from
 use Rattle.map_meaning.specs.declared.program.Role.TheVariants.{Grid}
 use Rattle.map_meaning.specs.Maps.{IsMapOf, WholeMap, nth}
@@ -83,6 +83,7 @@ number_within program (Input k) read = omega (arith, read.within)
 number_within program (from.Stack k) read = omega arith
 number_within program (Initial k) read = omega arith
 number_within program (Now k) read = omega arith
+number_within program (Drain k) read = omega arith
 number_within program (Last d i) read = omega arith
 
 -- an output of a program that is a time series can be kept

@@ -14,10 +14,12 @@ use Rattle.cell_values.specs.declared.kind.Kind.TheVariants.{Scalar}
 use Rattle.map_meaning.specs.declared.program.InputUse.{InputUse}
 use Rattle.map_meaning.specs.declared.program.Role.{Role}
 use Rattle.map_meaning.specs.declared.program.Role.TheVariants.{Grid}
-use Rattle.map_meaning.specs.Maps.{WholeMap, IsMapOf, nth}
+use Rattle.map_meaning.specs.Maps.{WholeMap, nth}
 use Rattle.map_meaning.specs.Spans.{AreOfInputs}
 use Rattle.run_session.specs.Course.{numbered_input}
-use Rattle.run_session.specs.inside.Parts.{HasAreaMap}
+use Rattle.run_session.specs.declared.drains.Source.{Source}
+use Rattle.run_session.specs.declared.frame.Frame.{Frame}
+use Rattle.run_session.specs.inside.Parts.{HasAreaMap, IsSource}
 
 -- the item at the loop's index stands in front of those that are left
 pub item_here : {A : Type 0} (items : List A) (i : ℕ) (a : A) → i < length items → a ≡ get_or items i a → drop i items ≡ a ∷ drop (i + 1) items
@@ -70,9 +72,9 @@ mapped_set f old items i x below is same =
 pub numbered : (list : List InputUse) (number : ℕ) (input : InputUse) → number < length list → input ≡ get_or list number input → input ≡ numbered_input list number
 numbered list number input below is = is ∙ get_or_default list number input (record { file = []; role = Grid; kind = Scalar }) below
 
--- the cells are those of the input with this number
-pub has_area : (places number : ℕ) (list : List InputUse) (input : InputUse) (cells : WholeMap) → slice_get list number ≡ Some input → IsMapOf places input.kind cells → HasAreaMap places number list cells
-has_area places number list input cells is whole = subst (λ found. IfSome found (λ input. IsMapOf places input.kind cells)) (sym is) whole
+-- this is what the input with this number is
+pub has_area : (frame : Frame) (number : ℕ) (list : List InputUse) (input : InputUse) (area : Source) → slice_get list number ≡ Some input → IsSource frame input area → HasAreaMap frame number list area
+has_area frame number list input area is whole = subst (λ found. IfSome found (λ input. IsSource frame input area)) (sym is) whole
 
 -- ---- what the inputs of a role give
 

@@ -1,5 +1,5 @@
 -- What is left of a run after each of its parts.
-use Rattle.std.proofs.Common.{◌≡◌, false, cond, map, refl, sym, ap, subst, ◌∙◌}
+use Rattle.std.proofs.Common.{◌≡◌, map, refl, sym, ap, subst, ◌∙◌}
 use Rattle.std.specs.Prelude.{List, ℕ, [], Ok, Err, Result, IfOk, IfErr, IsErrAnd}
 use Rattle.std.specs.declared.option.Option.{Option}
 use Rattle.outside_io.specs.State.{FolderState}
@@ -22,17 +22,16 @@ use Rattle.script_types.specs.Lowered.{Shown, as_shown, inputs_of, outputs_from}
 use Rattle.script_types.specs.Meaning.{meaning}
 use Rattle.script_types.specs.Names.{binding_of}
 use Rattle.script_types.specs.declared.typed.Line.{Line}
-use Rattle.script_types.specs.Unbuilt.{is_unbuilt}
 use Rattle.script_types.specs.Values.{Written, script_reports}
 use Rattle.run_session.specs.declared.ends.SessionEnd.{SessionEnd}
 use Rattle.run_session.specs.declared.ends.SessionEnd.TheVariants as session
 use Rattle.run_session.specs.declared.ends.Stop.{Stop}
 use Rattle.run_session.specs.declared.ends.Tally.{Tally}
 use Rattle.run_session.specs.declared.inputs.Inputs.{Inputs}
-use Rattle.run_session.specs.Asked.{AreRunsOf, CountsTasks, IfDone, WasAsked, all_steps, stands_run}
+use Rattle.run_session.specs.Asked.{AreRunsOf, CountsTasks, IfDone, WasAsked, all_spans, stands_run}
 use Rattle.run_session.specs.inside.Tallies.{HasRun}
 use Rattle.run_session.specs.Course.{CheckedScript, Given, Loaded, Many, checked_run, checked_script, inputs_given, load_run, loaded_run, nothing_given, one_more_input, or_meaning, plan_of, start_run, text_run}
-use Rattle.run_session.specs.Ends.{ScriptEnd, Unbuilt, script_end, why}
+use Rattle.run_session.specs.Ends.{ScriptEnd, script_end, why}
 use Rattle.run_session.specs.Evaluation.{reports_of, scenes_over}
 use Rattle.run_session.specs.Samples.{all_begun}
 use Rattle.run_session.specs.Steps.{Plan, plan_run, stacks_among, tallied}
@@ -45,13 +44,13 @@ use Rattle.run_session.specs.inside.Standings.{outputs_over, program_plan}
 abbrev pub after_given : Grid → Given → Run (Result Inputs ScriptEnd)
 after_given area given = settled (Ok (inputs_given area given))
 
--- what is left once the area map is read
+-- what is left once the area map is checked
 abbrev pub after_area : List InputUse → ℕ → Grid → Run (Result Inputs ScriptEnd)
 after_area list number area = in_turn (one_more_input number area) nothing_given list >>= after_given area
 
 -- what is left once the text of a script is read
-abbrev pub after_text : List ℕ → Script → Run (Result CheckedScript ScriptEnd)
-after_text name script = settled (checked_script name script)
+abbrev pub after_text : Script → Run (Result CheckedScript ScriptEnd)
+after_text script = settled (checked_script script)
 
 -- what is left once the inputs are read
 abbrev pub after_inputs : CheckedScript → Inputs → Run (Result Loaded ScriptEnd)
@@ -77,24 +76,24 @@ pub seen_out : {T X : Type 0} (view : T → X) (run : Run (Result X ScriptEnd)) 
 seen_out view run old new (Ok x) d is m = absurd is
 seen_out view run old new (Err e) d is m = subst (λ e. Meets (why_by why) run old new (stopped_by (stop_outcome e))) (sym is) m
 
--- a script that is built and has no fault, with its settled statements
-script_checked : (name : List ℕ) (script : Script) (lines : List Line) → is_unbuilt script ≡ false → meaning script ≡ Ok lines → checked_script name script ≡ Ok (record { script = script; lines = lines })
+-- a script that has no fault, with its settled statements
+script_checked : (script : Script) (lines : List Line) → meaning script ≡ Ok lines → checked_script script ≡ Ok (record { script = script; lines = lines })
 unfolding checked_script
-script_checked name script lines built meant = ap (λ b. cond b (Err (Unbuilt name)) (or_meaning script (meaning script))) built ∙ ap (or_meaning script) meant
+script_checked script lines meant = ap (or_meaning script) meant
 
 -- the program of a script that was read
-pub program_made : (name : List ℕ) (script : Script) (old mid : FolderState) (r : Result Program Stop) → IfOk r (IsLowered script) → IfErr r (StopsAt (checked_script name script)) →
+pub program_made : (name : List ℕ) (script : Script) (old mid : FolderState) (r : Result Program Stop) → IfOk r (IsLowered script) → IfErr r (StopsAt (checked_script script)) →
     Meets (why_by why) (text_run name) old mid (CameTo (Ok script)) → MakesFor IsProgramFor (checked_run name) old mid r
 program_made name script old mid (Ok program) lowered stops m =
     let s : CheckedScript = record { script = script; lines = lowered.lines } in (
       s,
       record { lowered = lowered; lines = refl },
-      meets_on why (text_run name) (after_text name) old mid mid script (CameTo (Ok s)) m
-          (meets_settled (why_by why) (checked_script name script) mid (CameTo (Ok s)) (script_checked name script lowered.lines lowered.built lowered.meant, refl)),
+      meets_on why (text_run name) after_text old mid mid script (CameTo (Ok s)) m
+          (meets_settled (why_by why) (checked_script script) mid (CameTo (Ok s)) (script_checked script lowered.lines lowered.meant, refl)),
     )
 program_made name script old mid (Err at) lowered stops m =
-    meets_on why (text_run name) (after_text name) old mid mid script (stopped_by (stop_outcome at)) m
-    (meets_settled (why_by why) (checked_script name script) mid (stopped_by (stop_outcome at)) stops)
+    meets_on why (text_run name) after_text old mid mid script (stopped_by (stop_outcome at)) m
+    (meets_settled (why_by why) (checked_script script) mid (stopped_by (stop_outcome at)) stops)
 
 -- what is left once the tasks are counted
 abbrev pub after_count : Plan → Unit {0} → Run (Result Tally ScriptEnd)
@@ -106,7 +105,7 @@ module _ (l : Loaded) (program : Program) (for : IsProgramFor (record { script =
   -- its program reports what its statements do
   reports_same : (grids : List (List StepMap)) (n : ℕ) → outputs_over program inputs grids n ≡ reports_of l.script l.lines l.inputs grids n
   reports_same grids n =
-      for.lowered.values.same (scenes_over program.inputs inputs grids) (λ k. refl) n ∙ (ap (λ list. script_reports l.script for.lowered.lines (scenes_over list inputs grids) n) for.lowered.program_of.inputs ∙
+      for.lowered.values.same (scenes_over program.inputs inputs grids) (λ k. refl) (λ m k input at drain. refl) n ∙ (ap (λ list. script_reports l.script for.lowered.lines (scenes_over list inputs grids) n) for.lowered.program_of.inputs ∙
       (ap (λ lines. reports_of l.script lines inputs grids n) for.lines ∙ ap (λ i. reports_of l.script l.lines i grids n) same))
 
   -- its plan is that of its statements
@@ -150,7 +149,7 @@ module _ (l : Loaded) (program : Program) (for : IsProgramFor (record { script =
         program = program;
         lowered = for.lowered;
         runs = asks.0;
-        each = subst (λ i. AreRunsOf program i run.standing.grids (all_steps program) asks.0) same asks.1;
+        each = subst (λ i. AreRunsOf program i run.standing.grids (all_spans program) asks.0) same asks.1;
         was = asks.2;
       }
 
@@ -172,10 +171,14 @@ undone (session.Done files steps) P is = absurd is
 undone (session.Missing name) P is = tt
 undone (session.TooLong name) P is = tt
 undone (session.Script fault) P is = tt
-undone (session.Unbuilt name) P is = tt
 undone (session.Input name kind) P is = tt
 undone (session.TooManyTasks count) P is = tt
 undone (session.Overflow at) P is = tt
 undone (session.FolderReadFault name) P is = tt
 undone (session.FolderWriteFault name) P is = tt
 undone session.Memory P is = tt
+
+-- a `?` hands an error on that stops a part of the run
+pub stops_out : {X Y : Type 0} (end : Result X ScriptEnd) (result : Result Y Stop) (d : Stop) → IsErrAnd result (λ e. e ≡ d) → StopsAt end d → IfErr result (StopsAt end)
+stops_out end (Ok y) d is stops = tt
+stops_out end (Err e) d is stops = subst (StopsAt end) (sym is) stops

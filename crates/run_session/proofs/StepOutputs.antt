@@ -12,7 +12,7 @@ use Rattle.map_meaning.specs.declared.known.Known.{Known}
 use Rattle.map_meaning.specs.declared.known.StepMap.{StepMap}
 use Rattle.map_meaning.specs.declared.program.InputUse.{InputUse}
 use Rattle.map_meaning.specs.declared.program.Operand.{Operand}
-use Rattle.map_meaning.specs.declared.program.Operand.TheVariants.{Unused, Literal, Time, Input, Initial, Now, Last}
+use Rattle.map_meaning.specs.declared.program.Operand.TheVariants.{Unused, Literal, Time, Input, Initial, Now, Last, Drain}
 use Rattle.map_meaning.specs.declared.program.Operand.TheVariants as from
 use Rattle.map_meaning.specs.declared.program.OutputKind.{OutputKind}
 use Rattle.map_meaning.specs.declared.program.OutputKind.TheVariants.{InitialGrid, StackGrid, Sample as IsSampleKind}
@@ -20,13 +20,14 @@ use Rattle.map_meaning.specs.declared.program.OutputUse.{OutputUse}
 use Rattle.map_meaning.specs.declared.program.Program.{Program}
 use Rattle.map_meaning.specs.Evaluation.{Done, operand_map}
 use Rattle.map_meaning.specs.Maps.{WholeMap, nth}
-use Rattle.map_meaning.specs.Programs.{IsBelowNow, IsOperation, IsOutput, IsOutputValue, IsStepOperation, IsWellFormed, is_carried, is_grid_role, is_initial, is_initial_grid, is_last, is_now, is_output, is_read_in_steps, is_stack_grid, is_written}
+use Rattle.map_meaning.specs.Programs.{IsBelowNow, IsOperation, IsOutput, IsOutputValue, IsStepOperation, IsWellFormed, is_carried, is_grid_role, is_initial, is_initial_grid, is_last, is_now, is_output, is_stack_grid, is_written}
 use Rattle.map_meaning.specs.Scenes.{map_at_step, place_count}
 use Rattle.map_meaning.specs.Spans.{kept_map, kept_maps}
 use Rattle.map_meaning.proofs.WholeMaps.{input_there, operation_of, step_operation_of, there}
 use Rattle.script_types.specs.Values.{Scenes, Written, done_steps, written}
 use Rattle.run_session.specs.declared.inputs.Inputs.{Inputs}
 use Rattle.run_session.specs.declared.samples.Sample.{Sample}
+use Rattle.run_session.specs.declared.stages.StageMaps.{StageMaps}
 use Rattle.run_session.specs.Evaluation.{scenes_over}
 use Rattle.run_session.specs.Samples.{id_columns, is_sample_form, place_of_id, sample_row, with_rows}
 use Rattle.run_session.specs.Steps.{Standing, grids_among, rows_among, stacks_among}
@@ -35,8 +36,9 @@ use Rattle.run_session.specs.inside.Parts.{AreInputsOf}
 use Rattle.run_session.specs.inside.Running.{IsStanding}
 use Rattle.run_session.specs.inside.Standings.{AreGridsOf, IsSample, held_cell, held_row, kept_of, kept_report, known_at, sampled_of, with_held_row}
 use Rattle.run_session.proofs.InputPlaces.{grid_at}
+use Rattle.run_session.proofs.KeptMaps.{kept_written}
 use Rattle.run_session.proofs.StepReports.{EachIs, any_at, each_all, each_passed, filter_forms, map_each, output_at}
-use Rattle.run_session.proofs.StepStages.{at_is_kept, grids_last, step_last, step_start, step_whole}
+use Rattle.run_session.proofs.StepStages.{at_is_kept, grids_last, step_drains, step_last, step_start, step_whole}
 use Rattle.run_session.proofs.StepValues.{kept_is}
 use Rattle.std.proofs.lemmas.List.{length-map}
 use Rattle.std.proofs.lemmas.List.Elements.{All-cons, All-nil, All-push}
@@ -108,7 +110,7 @@ row_kept uses known now step (o ∷ outputs) (s ∷ samples) kept = (record { va
 -- ---- a step
 
 module _ (program : Program) (formed : IsWellFormed program) (inputs : Inputs) (are : AreInputsOf program.inputs inputs)
-    (step n : ℕ) (e : step ≡ suc n) (some : 1 ≤ step) (there_is : step ≤ program.steps) (s : Standing) (initial last : List StepMap) (samples : List Sample) (is : IsStanding program inputs n s initial last samples)
+    (step n : ℕ) (e : step ≡ suc n) (some : 1 ≤ step) (there_is : step ≤ program.steps) (s : Standing) (left : StageMaps) (last : List StepMap) (samples : List Sample) (is : IsStanding program inputs n s left last samples)
     (g : List StepMap) (grids : AreGridsOf (inputs.frame.rows * inputs.frame.cols) step (stacks_among 0 program.inputs) g)
     (y : Done) (done : done_steps program (scenes_over program.inputs inputs (s.grids ++ g ∷ [])) step ≡ Ok y) where
   abbrev places : ℕ
@@ -118,7 +120,7 @@ module _ (program : Program) (formed : IsWellFormed program) (inputs : Inputs) (
   scenes = scenes_over program.inputs inputs (s.grids ++ g ∷ [])
 
   abbrev known : Known
-  known = known_at inputs g initial last
+  known = known_at inputs left g last
 
   abbrev maps : List StepMap
   maps = kept_maps step y.dynamic 0 program.dynamic
@@ -129,15 +131,15 @@ module _ (program : Program) (formed : IsWellFormed program) (inputs : Inputs) (
 
   module _ (i : ℕ) (o : OutputUse) (at : slice_get program.outputs i ≡ Some o) where
     -- an operation of `initial` that the output names is kept
-    initial_kept : (k : ℕ) → k < length program.initial → is_initial k o.value ≡ true → kept_map initial k ≡ nth y.initial k
+    initial_kept : (k : ℕ) → k < length program.initial → is_initial k o.value ≡ true → kept_map left.kept k ≡ nth y.initial k
     initial_kept k below names =
         let found = there program.initial k below in
         let zero_k : 0 + k ≡ k = omega arith in
         let op : IsOperation program k found.0 = subst (λ j. IsOperation program j found.0) zero_k (operation_of program 0 k program.initial found.0 formed.operations found.1) in
         let wanted : is_written program k ≡ true = any_at (λ (output : OutputUse). is_initial k output.value) program.outputs i o at names in
-        let kept : found.0.kept ≡ true = op.kept ∙ or_right (is_read_in_steps program (is_initial k)) (is_written program k) wanted in
-        ap (λ maps. kept_map maps k) is.initial_is ∙ (kept_is 0 is.start.initial program.initial k found.0 found.1 kept ∙
-        ap (λ maps. nth maps k) (sym (step_start program formed inputs are step n e some there_is s initial last samples is g grids y done)))
+        let kept : found.0.kept ≡ true = op.kept ∙ kept_written program k wanted in
+        ap (λ maps. kept_map maps k) is.first.kept ∙ (kept_is 0 is.start.initial program.initial k found.0 found.1 kept ∙
+        ap (λ maps. nth maps k) (sym (step_start program formed inputs are step n e some there_is s left last samples is g grids y done)))
 
     -- an operation of `dynamic` that the output names is kept
     named_kept : (k : ℕ) → (below : k < length program.dynamic) → (is_now k o.value || is_last k o.value) ≡ true → (there program.dynamic k below).0.kept ≡ true
@@ -157,7 +159,7 @@ module _ (program : Program) (formed : IsWellFormed program) (inputs : Inputs) (
     last_kept k below behind names =
         let found = there program.dynamic k below in
         ap (λ maps. kept_map maps k) (is.last_is behind) ∙ (kept_is n is.done.dynamic program.dynamic k found.0 found.1 (named_kept k below (or_right (is_now k o.value) (is_last k o.value) names)) ∙
-        ap (λ maps. nth maps k) (sym (step_last program formed inputs are step n e some there_is s initial last samples is g grids y done)))
+        ap (λ maps. nth maps k) (sym (step_last program formed inputs are step n e some there_is s left last samples is g grids y done)))
 
     -- the cell that an output writes is held
     held : (p : ℕ) → p < places → (v : Operand) → o.value ≡ v → IsBelowNow program (length program.dynamic) v →
@@ -171,18 +173,20 @@ module _ (program : Program) (formed : IsWellFormed program) (inputs : Inputs) (
         ap (λ m. cell_at m p) (ap (λ gs. map_at_step gs step k) (grids_last s.grids g step n e is.count) ∙ at_is_kept places step (stacks_among 0 program.inputs) g k grids)
     held p below (Initial k) is_v read = ap (λ m. cell_at m p) (sym (initial_kept k read (ap (is_initial k) is_v ∙ eq-eqb k k refl)))
     held p below (Now k) is_v read = ap (λ m. cell_at m p) (sym (now_kept k read (ap (is_now k) is_v ∙ eq-eqb k k refl)))
+    held p below (Drain k) is_v read =
+        ap (λ maps. cell_at (nth maps k) p) (step_drains program formed inputs are step n e some there_is s left last samples is g grids y done ∙ sym is.first.codes)
     held p below (Last d j) is_v read = by (step == 1) refl
       where
-        by : (b : Bool) → (step == 1) ≡ b → cell_at (cond (step == 1) (nth y.initial j) (nth y.last d)) p ≡ cell_at (cond (step == 1) (kept_map initial j) (kept_map last d)) p
+        by : (b : Bool) → (step == 1) ≡ b → cell_at (cond (step == 1) (nth y.initial j) (nth y.last d)) p ≡ cell_at (cond (step == 1) (kept_map left.kept j) (kept_map last d)) p
         by true h =
             ap (λ b. cell_at (cond b (nth y.initial j) (nth y.last d)) p) h ∙
             (ap (λ m. cell_at m p) (sym (initial_kept j read.of_initial (ap (is_initial j) is_v ∙ eq-eqb j j refl))) ∙
-            ap (λ b. cell_at (cond b (kept_map initial j) (kept_map last d)) p) (sym h))
+            ap (λ b. cell_at (cond b (kept_map left.kept j) (kept_map last d)) p) (sym h))
         by false h =
             let behind : 0 < n = let other : (step == 1) ≡ false = h in grind (arith, nat_tests, other, e) in
             ap (λ b. cell_at (cond b (nth y.initial j) (nth y.last d)) p) h ∙
             (ap (λ m. cell_at m p) (sym (last_kept d read.of_dynamic behind (ap (is_last d) is_v ∙ eq-eqb d d refl))) ∙
-            ap (λ b. cell_at (cond b (kept_map initial j) (kept_map last d)) p) (sym h))
+            ap (λ b. cell_at (cond b (kept_map left.kept j) (kept_map last d)) p) (sym h))
 
     -- what a time series samples is held
     sample_held : is_sample_form o.kind ≡ true → (p : ℕ) → p < places → cell_at (writes o).cells p ≡ held_cell known maps step (grids_before program.inputs (operand_input o.value)) o.value p
@@ -210,22 +214,22 @@ module _ (program : Program) (formed : IsWellFormed program) (inputs : Inputs) (
         by StackGrid is_k h = subst (λ k. IsOutputValue program k o.value) is_k output.value
         by (IsSampleKind ids) is_k h = absurd (cc)
 
-    stack_written : is_stack_grid o.kind ≡ true → writes o ≡ kept_report maps o
+    stack_written : is_stack_grid o.kind ≡ true → writes o ≡ kept_report maps left.drains o
     stack_written stack =
         let value = stack_value stack in
         let k = value.0 in
-        let same : operand_map (scenes step) y o.value ≡ kept_of maps o.value =
-        ap (operand_map (scenes step) y) value.1 ∙ (sym (now_kept k value.2 (ap (is_now k) value.1 ∙ eq-eqb k k refl)) ∙ ap (kept_of maps) (sym value.1)) in
+        let same : operand_map (scenes step) y o.value ≡ kept_of maps left.drains o.value =
+        ap (operand_map (scenes step) y) value.1 ∙ (sym (now_kept k value.2 (ap (is_now k) value.1 ∙ eq-eqb k k refl)) ∙ ap (kept_of maps left.drains) (sym value.1)) in
         let P : WholeMap → Written = λ cells. record { file = o.file; form = o.kind; kind = o.cell_kind; cells = cells } in
         ap P same
 
-    stack_count : is_stack_grid o.kind ≡ true → length (kept_of maps o.value) ≡ places
+    stack_count : is_stack_grid o.kind ≡ true → length (kept_of maps left.drains o.value) ≡ places
     stack_count stack =
         let value = stack_value stack in
         let k = value.0 in
         let found = there program.dynamic k value.2 in
-        let whole = step_whole program formed inputs are step n e some there_is s initial last samples is g grids y done k found.0 found.1 in
-        ap length (ap (kept_of maps) value.1 ∙ now_kept k value.2 (ap (is_now k) value.1 ∙ eq-eqb k k refl)) ∙ whole.count
+        let whole = step_whole program formed inputs are step n e some there_is s left last samples is g grids y done k found.0 found.1 in
+        ap length (ap (kept_of maps left.drains) value.1 ∙ now_kept k value.2 (ap (is_now k) value.1 ∙ eq-eqb k k refl)) ∙ whole.count
 
   -- the outputs of a step, by their forms
   abbrev stack_outputs : List OutputUse
@@ -248,14 +252,14 @@ module _ (program : Program) (formed : IsWellFormed program) (inputs : Inputs) (
   sample_forms (IsSampleKind ids) = refl
 
   -- the grids that are put are those of the stacks, from the kept maps
-  pub step_grids : grids_among step_reports ≡ map (kept_report maps) stack_outputs
+  pub step_grids : grids_among step_reports ≡ map (kept_report maps left.drains) stack_outputs
   step_grids =
       filter_forms (λ k. not (is_initial_grid k)) (λ k. not (is_sample_form k)) is_stack_grid stack_forms writes (λ o. refl) program.outputs ∙
-      map_each writes (kept_report maps) stack_outputs (each_passed (λ (o : OutputUse). writes o ≡ kept_report maps o) (λ (o : OutputUse). is_stack_grid o.kind) program.outputs stack_written)
+      map_each writes (kept_report maps left.drains) stack_outputs (each_passed (λ (o : OutputUse). writes o ≡ kept_report maps left.drains o) (λ (o : OutputUse). is_stack_grid o.kind) program.outputs stack_written)
 
   -- the maps that are put are whole
-  pub step_counts : All (λ (o : OutputUse). length (kept_of maps o.value) ≡ places) stack_outputs
-  step_counts = each_all (λ (o : OutputUse). length (kept_of maps o.value) ≡ places) stack_outputs (each_passed (λ (o : OutputUse). length (kept_of maps o.value) ≡ places) (λ (o : OutputUse). is_stack_grid o.kind) program.outputs stack_count)
+  pub step_counts : All (λ (o : OutputUse). length (kept_of maps left.drains o.value) ≡ places) stack_outputs
+  step_counts = each_all (λ (o : OutputUse). length (kept_of maps left.drains o.value) ≡ places) stack_outputs (each_passed (λ (o : OutputUse). length (kept_of maps left.drains o.value) ≡ places) (λ (o : OutputUse). is_stack_grid o.kind) program.outputs stack_count)
 
   -- the rows that are noted are those of the step
   pub step_rows : with_rows step s.samples (rows_among step_reports) ≡ map sampled_of (map (with_held_row known maps step) samples)

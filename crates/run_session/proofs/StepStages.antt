@@ -15,31 +15,34 @@ use Rattle.map_meaning.specs.declared.program.InputUse.{InputUse}
 use Rattle.map_meaning.specs.declared.program.Operation.{Operation}
 use Rattle.map_meaning.specs.declared.program.Program.{Program}
 use Rattle.map_meaning.specs.declared.program.Role.TheVariants.{Stack}
-use Rattle.map_meaning.specs.Evaluation.{Done, operation_part, operation_values, nothing_done}
+use Rattle.map_meaning.specs.Evaluation.{Done, operation_part, operation_values, nothing_done, staged_values}
 use Rattle.map_meaning.specs.Maps.{IsMapOf, WholeMap, nth}
 use Rattle.map_meaning.specs.Programs.{IsOperation, IsStepOperation, IsWellFormed, is_carried, is_initial, is_read_in_steps, is_stack_role}
 use Rattle.map_meaning.specs.Scenes.{map_at_step}
-use Rattle.map_meaning.specs.Spans.{HasStacks, Knows, done_before, done_next, kept_map, kept_maps, scene_of, stage_of, step_span, told_steps, told_then, whole_span}
+use Rattle.map_meaning.specs.Spans.{HasDrains, HasStacks, Knows, done_before, done_next, kept_map, kept_maps, scene_of, stage_of, step_span, told_steps, told_then, whole_span}
 use Rattle.map_meaning.proofs.Tabulated.{nth_tabulate}
-use Rattle.map_meaning.proofs.WholeMaps.{AreFrom, HasInputs, HasStacksAt, IsDoneNow, IsReadNow, from_list, map_whole, none_done, one_more_done, operation_of, read_now, scene_inputs, sound_now, step_operation_of, there, values_hold}
+use Rattle.map_meaning.proofs.WholeMaps.{AreFrom, HasCodes, HasInputs, HasStacksAt, IsDoneNow, IsReadNow, codes_known, from_list, map_whole, none_done, one_more_done, operation_of, read_now, scene_inputs, sound_now, step_operation_of, there, values_hold}
 use Rattle.script_types.specs.Values.{Scenes, done_steps}
 use Rattle.run_session.specs.declared.inputs.Inputs.{Inputs}
 use Rattle.run_session.specs.declared.samples.Sample.{Sample}
 use Rattle.run_session.specs.declared.stacks.StackUse.{StackUse}
+use Rattle.run_session.specs.declared.stages.StageMaps.{StageMaps}
 use Rattle.run_session.specs.Ends.{ScriptEnd, Overflow}
 use Rattle.run_session.specs.Evaluation.{grids_at, known_of, scenes_over}
 use Rattle.run_session.specs.Steps.{Standing, stacks_among}
 use Rattle.run_session.specs.inside.Parts.{AreInputsOf}
 use Rattle.run_session.specs.inside.Running.{AreWhole, IsStanding}
 use Rattle.run_session.specs.inside.Standings.{AreGridsOf, AscendFrom, IsGridOf, IsOrdered, known_at, stage_result}
+use Rattle.run_session.proofs.DrainLists.{drain_known}
+use Rattle.run_session.proofs.KeptMaps.{kept_read}
 use Rattle.run_session.proofs.Search.{are_ascending, kept_ascend}
-use Rattle.run_session.proofs.StepValues.{AgreeOn, SameDone, kept_is, values_agree, values_last, values_leave}
+use Rattle.run_session.proofs.StepValues.{AgreeOn, SameDone, kept_is, values_agree, values_drains, values_last, values_leave}
 
 -- ---- steps look at the scenes up to theirs alone
 
 -- what is done after so many steps is the same where the scenes up to the last of them are
 pub done_by : (program : Program) (a b : Scenes) (n : ℕ) → ((k : ℕ) → k ≤ n → a k ≡ b k) → done_steps program a n ≡ done_steps program b n
-done_by program a b zero same = ap (λ scene. operation_values program scene (whole_span program) nothing_done program.initial) (same 0 (omega arith))
+done_by program a b zero same = ap (λ scene. staged_values program scene (whole_span program) nothing_done program.drains program.initial) (same 0 (omega arith))
 done_by program a b (suc n) same =
     ap (λ r. r >>= λ done. operation_values program (a (suc n)) (step_span (suc n)) (done_next done) program.dynamic) (done_by program a b n (λ k below. same k (omega (arith, below)))) ∙
     ap (λ scene. done_steps program b n >>= λ done. operation_values program scene (step_span (suc n)) (done_next done) program.dynamic) (same (suc n) (omega arith))
@@ -153,7 +156,7 @@ kept_result program step (Ok done) = Ok (kept_maps step done.dynamic 0 program.d
 kept_result program step (Err at) = Err (Overflow at)
 
 module _ (program : Program) (formed : IsWellFormed program) (inputs : Inputs) (are : AreInputsOf program.inputs inputs)
-    (step n : ℕ) (e : step ≡ suc n) (some : 1 ≤ step) (there_is : step ≤ program.steps) (s : Standing) (initial last : List StepMap) (samples : List Sample) (is : IsStanding program inputs n s initial last samples)
+    (step n : ℕ) (e : step ≡ suc n) (some : 1 ≤ step) (there_is : step ≤ program.steps) (s : Standing) (left : StageMaps) (last : List StepMap) (samples : List Sample) (is : IsStanding program inputs n s left last samples)
     (g : List StepMap) (grids : AreGridsOf (inputs.frame.rows * inputs.frame.cols) step (stacks_among 0 program.inputs) g) where
   abbrev places : ℕ
   places = inputs.frame.rows * inputs.frame.cols
@@ -165,7 +168,7 @@ module _ (program : Program) (formed : IsWellFormed program) (inputs : Inputs) (
   scenes = scenes_over program.inputs inputs all_grids
 
   abbrev known : Known
-  known = known_at inputs g initial last
+  known = known_at inputs left g last
 
   abbrev values : Result Done OverAt
   values = operation_values program (scenes step) (step_span step) (done_next is.done) program.dynamic
@@ -182,8 +185,8 @@ module _ (program : Program) (formed : IsWellFormed program) (inputs : Inputs) (
       subst P (sym e) (ap (λ r. r >>= λ done. operation_values program (scenes (suc n)) (step_span (suc n)) (done_next done) program.dynamic) before)
 
   -- an operation of `initial` that is kept has its map among the kept ones
-  initial_kept : (k : ℕ) (o : Operation) → slice_get program.initial k ≡ Some o → o.kept ≡ true → kept_map initial k ≡ nth is.start.initial k
-  initial_kept k o here kept = ap (λ maps. kept_map maps k) is.initial_is ∙ kept_is 0 is.start.initial program.initial k o here kept
+  initial_kept : (k : ℕ) (o : Operation) → slice_get program.initial k ≡ Some o → o.kept ≡ true → kept_map left.kept k ≡ nth is.start.initial k
+  initial_kept k o here kept = ap (λ maps. kept_map maps k) is.first.kept ∙ kept_is 0 is.start.initial program.initial k o here kept
 
   -- so has one of `dynamic`, of the step before
   last_kept : (k : ℕ) (o : Operation) → 0 < n → slice_get program.dynamic k ≡ Some o → o.kept ≡ true → kept_map last k ≡ nth is.done.dynamic k
@@ -194,7 +197,7 @@ module _ (program : Program) (formed : IsWellFormed program) (inputs : Inputs) (
   read_is_kept k o here read =
       let at : 0 + k ≡ k = omega arith in
       let op : IsOperation program k o = subst (λ j. IsOperation program j o) at (operation_of program 0 k program.initial o formed.operations here) in
-      op.kept ∙ or_left (is_read_in_steps program (is_initial k)) _ read
+      op.kept ∙ kept_read program k read
 
   -- an operation of `dynamic` that the next step reads is kept
   carried_is_kept : (k : ℕ) (o : Operation) → slice_get program.dynamic k ≡ Some o → is_carried program k ≡ true → o.kept ≡ true
@@ -207,9 +210,10 @@ module _ (program : Program) (formed : IsWellFormed program) (inputs : Inputs) (
   agree : AgreeOn program (scenes step) (done_before program (span.Steps step step) known) (done_next is.done)
   agree = record {
     now = refl;
+    drains = is.first.codes ∙ sym is.same_drains;
     initial = λ k below read.
         let here = there program.initial k below in
-        nth_tabulate (kept_map initial) (length program.initial) k below ∙ (initial_kept k here.0 here.1 (read_is_kept k here.0 here.1 read) ∙ ap (λ maps. nth maps k) (sym is.same_start));
+        nth_tabulate (kept_map left.kept) (length program.initial) k below ∙ (initial_kept k here.0 here.1 (read_is_kept k here.0 here.1 read) ∙ ap (λ maps. nth maps k) (sym is.same_start));
     last = λ other k below carried.
         let here = there program.dynamic k below in
         let behind : 0 < n = let h : (step == 1) ≡ false = other in grind (arith, nat_tests, h, e) in
@@ -244,8 +248,8 @@ module _ (program : Program) (formed : IsWellFormed program) (inputs : Inputs) (
       (values_agree program formed (scenes step) step step program.dynamic 0 before (done_next is.done) all_from agree)
       ∙ ap (kept_result program step) (sym done_step)))
 
-  initial_ascends : AscendFrom 0 initial
-  initial_ascends = subst (AscendFrom 0) (sym is.initial_is) (kept_ascend 0 is.start.initial 0 program.initial)
+  initial_ascends : AscendFrom 0 left.kept
+  initial_ascends = subst (AscendFrom 0) (sym is.first.kept) (kept_ascend 0 is.start.initial 0 program.initial)
 
   last_ascends : AscendFrom 0 last
   last_ascends = by n refl
@@ -258,6 +262,11 @@ module _ (program : Program) (formed : IsWellFormed program) (inputs : Inputs) (
   pub known_ordered : IsOrdered known
   known_ordered = record { stacks = grids_ascend places step program.inputs g grids; initial = initial_ascends; last = last_ascends }
 
+  -- all drain maps are known
+  drains_known : HasDrains program (length program.initial) known
+  drains_known k d here due =
+      drain_known inputs.frame left.drains k is.first.sound (let c : length left.drains ≡ length program.drains = is.first.count in let b : k < length program.drains = slice_get_within program.drains k d here in omega (arith, b, c))
+
   -- what the runner is to know is known
   pub step_knows : Knows program (step_span step) known
   step_knows = record {
@@ -268,8 +277,9 @@ module _ (program : Program) (formed : IsWellFormed program) (inputs : Inputs) (
     tables = are.tables;
     series = are.series;
     outside = record {
-      initial = λ k o here kept. subst (IsMapOf places o.kind) (sym (initial_kept k o here kept)) (is.whole_start k o here);
-      order = are_ascending initial initial_ascends;
+      drains = drains_known;
+      initial = λ k o here kept. subst (IsMapOf places o.kind) (sym (initial_kept k o here kept)) (is.first.whole k o here);
+      order = are_ascending left.kept initial_ascends;
       carried = λ behind k o here carried.
           let later : 0 < n = omega (arith, behind, e) in
           subst (IsMapOf places o.kind) (sym (last_kept k o later here (carried_is_kept k o here carried))) (is.whole later k o here);
@@ -280,7 +290,7 @@ module _ (program : Program) (formed : IsWellFormed program) (inputs : Inputs) (
 
   -- the inputs and the grids of the step
   inputs_here : HasInputs program (scenes step)
-  inputs_here = scene_inputs program (known_of inputs (grids_at all_grids step)) step are.maps are.tables are.series
+  inputs_here = scene_inputs program (known_of inputs (grids_at all_grids step)) step are.size.few are.maps are.tables are.series
 
   stacks_here : HasStacksAt program (scenes step)
   stacks_here k input here role =
@@ -295,19 +305,20 @@ module _ (program : Program) (formed : IsWellFormed program) (inputs : Inputs) (
       let within : m < length program.dynamic = slice_get_within program.dynamic m o here in
       let at : 0 + m ≡ m = omega arith in
       let formed_o = subst (λ j. IsStepOperation program j o) at (step_operation_of program 0 m program.dynamic o formed.step_operations here) in
-      let sound = sound_now program (scenes step) done m inputs_here stacks_here formed.operations some (omega (arith, there_is, formed.few_steps)) (omega (arith, within)) all in
+      let sound = sound_now program (scenes step) done m inputs_here stacks_here formed.operations formed.drains some (omega (arith, there_is, formed.few_steps)) (omega (arith, within)) all in
       map_whole program (scenes step) done inputs_here (IsReadNow program m) sound o o.kept (read_now program m o here formed_o)
 
-  map_next : (m : ℕ) (done : Done) (o : Operation) (cells : WholeMap) → HoldsNow m done → slice_get program.dynamic m ≡ Some o → IsMapOf places o.kind cells → HoldsNow (m + 1) (record { initial = done.initial; dynamic = done.dynamic ++ cells ∷ []; last = done.last })
-  map_next m done o cells all here whole = record { now = one_more_done program.dynamic places m done.dynamic o cells all.now here whole; initial = all.initial; carried = all.carried }
+  map_next : (m : ℕ) (done : Done) (o : Operation) (cells : WholeMap) → HoldsNow m done → slice_get program.dynamic m ≡ Some o → IsMapOf places o.kind cells → HoldsNow (m + 1) (record { initial = done.initial; dynamic = done.dynamic ++ cells ∷ []; last = done.last; drains = done.drains })
+  map_next m done o cells all here whole = record { now = one_more_done program.dynamic places m done.dynamic o cells all.now here whole; initial = all.initial; carried = all.carried; drains = all.drains }
 
   -- the maps of the step are whole
   pub step_whole : (y : Done) → done_steps program scenes step ≡ Ok y → AreWhole places program.dynamic y.dynamic
   step_whole y done k o here =
       let begun : HoldsNow 0 (done_next is.done) = record {
         now = none_done program.dynamic places;
-        initial = λ j p at kept. subst (λ maps. IsMapOf places p.kind (nth maps j)) (sym is.same_start) (is.whole_start j p at);
+        initial = λ j p at kept. subst (λ maps. IsMapOf places p.kind (nth maps j)) (sym is.same_start) (is.first.whole j p at);
         carried = λ behind j p at carried. is.whole (omega (arith, behind, e)) j p at;
+        drains = subst (HasCodes program places (length program.initial)) (is.first.codes ∙ sym is.same_drains) (codes_known program (length program.initial) known drains_known);
       } in
       let all = values_hold program (scenes step) (step_span step) program.dynamic HoldsNow map_here map_next 0 (done_next is.done) y program.dynamic begun all_from (sym done_step ∙ done) in
       all.now.each k o (let within : k < length program.dynamic = slice_get_within program.dynamic k o here in omega (arith, within)) here
@@ -315,6 +326,10 @@ module _ (program : Program) (formed : IsWellFormed program) (inputs : Inputs) (
   -- the maps of `initial` stay
   pub step_start : (y : Done) → done_steps program scenes step ≡ Ok y → y.initial ≡ is.start.initial
   step_start y done = values_leave program formed (scenes step) step step program.dynamic (done_next is.done) y (sym done_step ∙ done) ∙ is.same_start
+
+  -- so do the drain maps
+  pub step_drains : (y : Done) → done_steps program scenes step ≡ Ok y → y.drains ≡ is.start.drains
+  step_drains y done = values_drains program formed (scenes step) step step program.dynamic (done_next is.done) y (sym done_step ∙ done) ∙ is.same_drains
 
   -- those of the step before are the last ones
   pub step_last : (y : Done) → done_steps program scenes step ≡ Ok y → y.last ≡ is.done.dynamic

@@ -9,11 +9,12 @@ use Rattle.map_meaning.specs.declared.known.StepMap.{StepMap}
 use Rattle.map_meaning.specs.declared.program.Program.{Program}
 use Rattle.map_meaning.specs.Evaluation.{Done}
 use Rattle.map_meaning.specs.Programs.{IsWellFormed}
-use Rattle.map_meaning.specs.Spans.{Knows, kept_maps, step_span}
+use Rattle.map_meaning.specs.Spans.{kept_maps, step_span}
 use Rattle.script_types.specs.Values.{Scenes, Written, done_steps, is_output_of, section_at, written}
 use Rattle.run_session.specs.declared.inputs.Inputs.{Inputs}
 use Rattle.run_session.specs.declared.samples.Sample.{Sample}
-use Rattle.run_session.specs.Asked.{HasDone, IsRunOf, span_at}
+use Rattle.run_session.specs.declared.stages.StageMaps.{StageMaps}
+use Rattle.run_session.specs.Asked.{HasDone, IsRunOf}
 use Rattle.run_session.specs.Evaluation.{scenes_over}
 use Rattle.run_session.specs.Steps.{Standing, stacks_among}
 use Rattle.run_session.specs.inside.Parts.{AreInputsOf}
@@ -21,10 +22,10 @@ use Rattle.run_session.specs.inside.Running.{IsStanding}
 use Rattle.run_session.specs.inside.Standings.{AreGridsOf, known_at, outputs_over, with_held_row}
 use Rattle.run_session.proofs.StepOutputs.{row_kept, row_samples, step_reports, step_rows}
 use Rattle.run_session.proofs.StepRuns.{standing_after}
-use Rattle.run_session.proofs.StepStages.{done_front, grids_last, step_knows, step_start, step_whole}
+use Rattle.run_session.proofs.StepStages.{done_front, grids_last, step_drains, step_knows, step_start, step_whole}
 
 module _ (program : Program) (formed : IsWellFormed program) (inputs : Inputs) (are : AreInputsOf program.inputs inputs)
-    (step n : ℕ) (e : step ≡ suc n) (some : 1 ≤ step) (there_is : step ≤ program.steps) (s : Standing) (initial last : List StepMap) (samples : List Sample) (is : IsStanding program inputs n s initial last samples)
+    (step n : ℕ) (e : step ≡ suc n) (some : 1 ≤ step) (there_is : step ≤ program.steps) (s : Standing) (left : StageMaps) (last : List StepMap) (samples : List Sample) (is : IsStanding program inputs n s left last samples)
     (g : List StepMap) (grids : AreGridsOf (inputs.frame.rows * inputs.frame.cols) step (stacks_among 0 program.inputs) g) where
   abbrev places : ℕ
   places = inputs.frame.rows * inputs.frame.cols
@@ -36,7 +37,7 @@ module _ (program : Program) (formed : IsWellFormed program) (inputs : Inputs) (
   scenes = scenes_over program.inputs inputs all_grids
 
   abbrev known : Known
-  known = known_at inputs g initial last
+  known = known_at inputs left g last
 
   -- what was done before is done
   before_done : HasDone program inputs all_grids n is.done
@@ -47,7 +48,7 @@ module _ (program : Program) (formed : IsWellFormed program) (inputs : Inputs) (
 
   module _ (y : Done) (done : done_steps program scenes step ≡ Ok y) where
     abbrev reports : List Written
-    reports = step_reports program formed inputs are step n e some there_is s initial last samples is g grids y done
+    reports = step_reports program formed inputs are step n e some there_is s left last samples is g grids y done
 
     -- what the program reports at the step
     pub step_reported : outputs_over program inputs all_grids step ≡ Ok reports
@@ -57,46 +58,46 @@ module _ (program : Program) (formed : IsWellFormed program) (inputs : Inputs) (
 
     -- what stands after the step
     pub stands_after : (maps : List StepMap) → maps ≡ kept_maps step y.dynamic 0 program.dynamic →
-        IsStanding program inputs step (standing_after s step g reports) initial maps (map (with_held_row known maps step) samples)
+        IsStanding program inputs step (standing_after s step g reports) left maps (map (with_held_row known maps step) samples)
     stands_after maps kept =
-        let P : List StepMap → Type 0 = λ maps. IsStanding program inputs step (standing_after s step g reports) initial maps (map (with_held_row known maps step) samples) in
+        let P : List StepMap → Type 0 = λ maps. IsStanding program inputs step (standing_after s step g reports) left maps (map (with_held_row known maps step) samples) in
         subst P (sym kept)
         (record {
           count = length_push s.grids g ∙ (let c : length s.grids ≡ n = is.count in omega (arith, c, e));
           start = is.start;
           is_start = start_done;
-          whole_start = is.whole_start;
+          first = is.first;
           done = y;
           is_done = done;
-          same_start = step_start program formed inputs are step n e some there_is s initial last samples is g grids y done;
-          whole = λ behind. step_whole program formed inputs are step n e some there_is s initial last samples is g grids y done;
-          initial_is = is.initial_is;
+          same_start = step_start program formed inputs are step n e some there_is s left last samples is g grids y done;
+          same_drains = step_drains program formed inputs are step n e some there_is s left last samples is g grids y done;
+          whole = λ behind. step_whole program formed inputs are step n e some there_is s left last samples is g grids y done;
           last_is = λ behind. refl;
           none = λ none. absurd (omega (arith, none, some));
-          samples_are = step_rows program formed inputs are step n e some there_is s initial last samples is g grids y done;
+          samples_are = step_rows program formed inputs are step n e some there_is s left last samples is g grids y done;
           each = row_samples places known (kept_maps step y.dynamic 0 program.dynamic) step samples is.each;
           kept_for = row_kept program.inputs known (kept_maps step y.dynamic 0 program.dynamic) step _ samples is.kept_for;
         })
 
   -- the run that the runner was asked for
-  pub step_asked : IsRunOf program inputs all_grids step (record { program = program; span = step_span step; known = known })
+  pub step_asked : IsRunOf program inputs all_grids (step_span step) (record { program = program; span = step_span step; known = known })
   step_asked =
-      let span : step_span step ≡ span_at program step = sym (ap (span_at program) e ∙ ap step_span (sym e)) in
       let less : n ≡ step - 1 = omega (arith, e) in
       record {
         program_same = refl;
-        span_same = span;
-        knows = subst (λ s. Knows program s known) span (step_knows program formed inputs are step n e some there_is s initial last samples is g grids);
+        span_same = refl;
+        knows = step_knows program formed inputs are step n e some there_is s left last samples is g grids;
         rows = refl;
         cols = refl;
         maps = refl;
         tables = refl;
         series = refl;
         stacks = sym (grids_last s.grids g step n e is.count);
-        before = λ behind. record {
+        before = record {
           start = is.start;
           is_start = start_done;
-          initial = is.initial_is;
+          initial = is.first.kept;
+          drains = is.first.codes;
           before = is.done;
           is_before = subst (λ k. HasDone program inputs all_grids k is.done) less before_done;
           last = λ more. subst (λ k. last ≡ kept_maps k is.done.dynamic 0 program.dynamic) less (is.last_is (omega (arith, more, e)));

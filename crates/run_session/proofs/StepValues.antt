@@ -4,22 +4,21 @@ use Rattle.std.specs.Prelude.{◌==◌, Some, slice_get}
 use Rattle.std.proofs.lemmas.Bool.{eq-eqb, ne_eqb}
 use Rattle.text_base.specs.Results.{◌>>=◌}
 use Rattle.tile_map.specs.Cuts.{cell_at}
-use Rattle.tile_map.specs.Parts.{part_of}
 use Rattle.map_meaning.specs.declared.known.OverAt.{OverAt}
 use Rattle.map_meaning.specs.declared.known.Span.TheVariants as span
 use Rattle.map_meaning.specs.declared.known.StepMap.{StepMap}
 use Rattle.map_meaning.specs.declared.program.Operand.{Operand}
-use Rattle.map_meaning.specs.declared.program.Operand.TheVariants.{Unused, Literal, Time, Input, Initial, Now, Last}
+use Rattle.map_meaning.specs.declared.program.Operand.TheVariants.{Unused, Literal, Time, Input, Initial, Now, Last, Drain}
 use Rattle.map_meaning.specs.declared.program.Operand.TheVariants as from
 use Rattle.map_meaning.specs.declared.program.Operation.{Operation}
 use Rattle.map_meaning.specs.declared.program.Program.{Program}
-use Rattle.map_meaning.specs.Evaluation.{Done, operand_cell, operation_part, operation_value, operation_values, with_map}
-use Rattle.map_meaning.specs.Maps.{CellAt, WholeMap, nth}
+use Rattle.map_meaning.specs.Evaluation.{Done, operand_cell, operation_value, operation_values, with_map}
+use Rattle.map_meaning.specs.Maps.{WholeMap, nth}
 use Rattle.map_meaning.specs.Overs.{whole_or_over}
-use Rattle.map_meaning.specs.Programs.{IsOperationOf, IsStepOperation, IsWellFormed, is_carried, is_initial, is_last, is_read_in_steps, kinds_of}
-use Rattle.map_meaning.specs.Rules.{outcome_of}
-use Rattle.map_meaning.specs.Scenes.{Scene, place_count, setting_at}
+use Rattle.map_meaning.specs.Programs.{IsStepOperation, IsWellFormed, is_carried, is_initial, is_last, is_read_in_steps}
+use Rattle.map_meaning.specs.Scenes.{Scene}
 use Rattle.map_meaning.specs.Spans.{kept_map, kept_maps}
+use Rattle.run_session.proofs.Agreeing.{part_same}
 use Rattle.map_meaning.proofs.WholeMaps.{AreFrom, IsReadNow, read_now, step_operation_of}
 
 -- ---- only what is read matters
@@ -27,6 +26,7 @@ use Rattle.map_meaning.proofs.WholeMaps.{AreFrom, IsReadNow, read_now, step_oper
 -- Two agree on what a step reads of what was done before it, and on what is done at it.
 pub record AgreeOn (program : Program) (scene : Scene) (x y : Done) : Type 0 where
   pub now : x.dynamic ≡ y.dynamic
+  pub drains : x.drains ≡ y.drains
   pub initial : (k : ℕ) → k < length program.initial → is_read_in_steps program (is_initial k) ≡ true → nth x.initial k ≡ nth y.initial k
   pub last : (scene.step == 1) ≡ false → (k : ℕ) → k < length program.dynamic → is_carried program k ≡ true → nth x.last k ≡ nth y.last k
 
@@ -45,30 +45,20 @@ module _ (program : Program) (formed : IsWellFormed program) (scene : Scene) (fi
   operand_agrees x y n Time agree read = refl
   operand_agrees x y n (Input k) agree read = refl
   operand_agrees x y n (from.Stack k) agree read = refl
-  operand_agrees x y n (Initial k) agree read = ap cell_at (agree.initial k read.below (read.seen (is_initial k) (eq-eqb k k refl)))
+  operand_agrees x y n (Initial k) agree read = ap cell_at (agree.initial k read.below (read.seen (is_initial k) (λ j. refl) (eq-eqb k k refl)))
   operand_agrees x y n (Now k) agree read = ap (λ maps. cell_at (nth maps k)) agree.now
+  operand_agrees x y n (Drain k) agree read = ap (λ maps. cell_at (nth maps k)) agree.drains
   operand_agrees x y n (Last d i) agree read = by (scene.step == 1) refl
     where
       by : (b : Bool) → (scene.step == 1) ≡ b → cell_at (cond (scene.step == 1) (nth x.initial i) (nth x.last d)) ≡ cell_at (cond (scene.step == 1) (nth y.initial i) (nth y.last d))
       by true h =
           ap (λ b. cell_at (cond b (nth x.initial i) (nth x.last d))) h ∙
-          (ap cell_at (agree.initial i read.below.of_initial (read.seen (is_initial i) (eq-eqb i i refl))) ∙
+          (ap cell_at (agree.initial i read.below.of_initial (read.seen (is_initial i) (λ j. refl) (eq-eqb i i refl))) ∙
           ap (λ b. cell_at (cond b (nth y.initial i) (nth y.last d))) (sym h))
       by false h =
           ap (λ b. cell_at (cond b (nth x.initial i) (nth x.last d))) h ∙
-          (ap cell_at (agree.last h d read.below.of_dynamic (read.seen (is_last d) (eq-eqb d d refl))) ∙
+          (ap cell_at (agree.last h d read.below.of_dynamic (read.seen (is_last d) (λ j. refl) (eq-eqb d d refl))) ∙
           ap (λ b. cell_at (cond b (nth y.initial i) (nth y.last d))) (sym h))
-
-  -- the map of an operation is the same where its operands are
-  part_agrees : (x y : Done) (n : ℕ) (o : Operation) → AgreeOn program scene x y → IsOperationOf program (IsReadNow program n) o.kept o → operation_part program scene x o ≡ operation_part program scene y o
-  unfolding operation_part
-  part_agrees x y n o agree is =
-      let of = λ (a b c d : CellAt). part_of (outcome_of o.op (setting_at scene o.file (kinds_of program o)) (a ∷ b ∷ c ∷ d ∷ [])) (place_count scene) in
-      let cell = operand_cell scene in
-      ap (λ z. of z (cell x o.b) (cell x o.c) (cell x o.d)) (operand_agrees x y n o.a agree is.a)
-      ∙ (ap (λ z. of (cell y o.a) z (cell x o.c) (cell x o.d)) (operand_agrees x y n o.b agree is.b)
-      ∙ (ap (λ z. of (cell y o.a) (cell y o.b) z (cell x o.d)) (operand_agrees x y n o.c agree is.c)
-      ∙ ap (λ z. of (cell y o.a) (cell y o.b) (cell y o.c) z) (operand_agrees x y n o.d agree is.d)))
 
   -- the operations of a step give the same where what is read is
   pub values_agree : (operations : List Operation) (n : ℕ) (x y : Done) → AreFrom program.dynamic n operations → AgreeOn program scene x y →
@@ -77,11 +67,11 @@ module _ (program : Program) (formed : IsWellFormed program) (scene : Scene) (fi
   values_agree (o ∷ more) n x y from agree =
       let here : 0 + n ≡ n = omega arith in
       let is : IsStepOperation program n o = subst (λ j. IsStepOperation program j o) here (step_operation_of program 0 n program.dynamic o formed.step_operations from.0) in
-      let same = part_agrees x y n o agree (read_now program n o from.0 is) in
+      let same = part_same program scene x y (IsReadNow program n) (λ operand. operand_agrees x y n operand agree) o o.kept (read_now program n o from.0 is) in
       subst (λ part. SameDone program scene (operation_values program scene (span.Steps first last) x (o ∷ more))
       (whole_or_over scene o.statement o.number part >>= λ m. operation_values program scene (span.Steps first last) (with_map (span.Steps first last) y m) more)) same
       (by (operation_value program scene x o) (λ m. values_agree more (n + 1) (with_map (span.Steps first last) x m) (with_map (span.Steps first last) y m) from.1
-      (record { now = ap (λ maps. maps ++ m ∷ []) agree.now; initial = agree.initial; last = agree.last })))
+      (record { now = ap (λ maps. maps ++ m ∷ []) agree.now; drains = agree.drains; initial = agree.initial; last = agree.last })))
     where
       by : (r : Result WholeMap OverAt) →
           ((m : WholeMap) → SameDone program scene (operation_values program scene (span.Steps first last) (with_map (span.Steps first last) x m) more) (operation_values program scene (span.Steps first last) (with_map (span.Steps first last) y m) more)) →
@@ -106,6 +96,16 @@ module _ (program : Program) (formed : IsWellFormed program) (scene : Scene) (fi
     where
       by : (r : Result WholeMap OverAt) → (r >>= λ m. operation_values program scene (span.Steps first last) (with_map (span.Steps first last) x m) more) ≡ Ok y →
           ((m : WholeMap) → operation_values program scene (span.Steps first last) (with_map (span.Steps first last) x m) more ≡ Ok y → y.last ≡ x.last) → y.last ≡ x.last
+      by (Ok m) is later = later m is
+      by (Err at) is later = absurd (cc)
+
+  -- and the drain maps
+  pub values_drains : (operations : List Operation) (x y : Done) → operation_values program scene (span.Steps first last) x operations ≡ Ok y → y.drains ≡ x.drains
+  values_drains [] x y is = let same : x ≡ y = cc in ap (λ (d : Done). d.drains) (sym same)
+  values_drains (o ∷ more) x y is = by (operation_value program scene x o) is (λ m. values_drains more (with_map (span.Steps first last) x m) y)
+    where
+      by : (r : Result WholeMap OverAt) → (r >>= λ m. operation_values program scene (span.Steps first last) (with_map (span.Steps first last) x m) more) ≡ Ok y →
+          ((m : WholeMap) → operation_values program scene (span.Steps first last) (with_map (span.Steps first last) x m) more ≡ Ok y → y.drains ≡ x.drains) → y.drains ≡ x.drains
       by (Ok m) is later = later m is
       by (Err at) is later = absurd (cc)
 

@@ -1,8 +1,10 @@
 -- The course of a script: its reads and puts in order and its end, by its text, its files and a count of tasks.
-use Rattle.std.specs.Prelude.{ℕ, ◌+◌, List, [], ◌∷◌, ◌++◌, ◌==◌, slice_index_or, Some, None, Ok, Err, Result, if◌then◌else◌}
+use Rattle.std.specs.Prelude.{ℕ, ◌+◌, ◌/◌, ◌%◌, List, [], ◌∷◌, ◌++◌, ◌==◌, slice_index_or, Some, None, Ok, Err, Result, if◌then◌else◌}
 use Rattle.std.specs.declared.option.Option.{Option}
 use Rattle.text_base.specs.Limits.{most_script_bytes, most_text_bytes}
-use Rattle.cell_values.specs.declared.kind.Kind.TheVariants.{Scalar}
+use Rattle.cell_values.specs.declared.kind.Kind.TheVariants.{Scalar, Ldd}
+use Rattle.drain_meaning.specs.inside.FirstUnsound.{first_unsound}
+use Rattle.map_meaning.specs.Table.{is_kind}
 use Rattle.outside_io.specs.Events.{Run}
 use Rattle.outside_io.specs.Runs.{◌>>=◌, settled, reading, in_turn, end_as}
 use Rattle.script_syntax.specs.declared.fault.SyntaxFault.{SyntaxFault}
@@ -26,13 +28,12 @@ use Rattle.script_types.specs.declared.typed.Line.{Line}
 use Rattle.script_types.specs.Lowered.{area_number, inputs_of, outputs_from}
 use Rattle.script_types.specs.Meaning.{meaning}
 use Rattle.script_types.specs.Names.{binding_of}
-use Rattle.script_types.specs.Unbuilt.{is_unbuilt}
 use Rattle.run_session.specs.declared.ends.InputKind.TheVariants as inputs
 use Rattle.run_session.specs.declared.ends.ScriptFault.TheVariants as faults
 use Rattle.run_session.specs.declared.ends.Tally.{Tally}
 use Rattle.run_session.specs.declared.frame.Frame.{Frame}
 use Rattle.run_session.specs.declared.inputs.Inputs.{Inputs}
-use Rattle.run_session.specs.Ends.{ScriptEnd, Missing, TooLong, Script as ScriptIs, Unbuilt, Input, TooManyTasks, script_end}
+use Rattle.run_session.specs.Ends.{ScriptEnd, Missing, TooLong, Script as ScriptIs, Input, TooManyTasks, script_end}
 use Rattle.run_session.specs.Evaluation.{reports_of}
 use Rattle.run_session.specs.Samples.{all_begun}
 use Rattle.run_session.specs.Steps.{Plan, grid_run, map_run, plan_run, stacks_among, tallied}
@@ -60,15 +61,15 @@ abbrev pub or_meaning : Script → Result (List Line) MeaningFault → Result Ch
 or_meaning script (Ok lines) = Ok (record { script = script; lines = lines })
 or_meaning script (Err fault) = Err (ScriptIs (faults.Meaning fault))
 
--- the script of this name with its settled statements; something that is not built ends the run before every fault of meaning
-unfoldable pub checked_script : List ℕ → Script → Result CheckedScript ScriptEnd
-checked_script name script = if is_unbuilt script then Err (Unbuilt name) else or_meaning script (meaning script)
+-- the script with its settled statements, or its first fault of meaning
+unfoldable pub checked_script : Script → Result CheckedScript ScriptEnd
+checked_script script = or_meaning script (meaning script)
 
 -- the script of this name is read, and its statements are settled
 abbrev pub checked_run : List ℕ → Run (Result CheckedScript ScriptEnd)
 checked_run name = do
   script ← text_run name
-  settled (checked_script name script)
+  settled (checked_script script)
 
 -- ---- the inputs
 
@@ -128,9 +129,27 @@ with_stack_given given = record { count = given.count + 1; maps = given.maps; ta
 abbrev pub frame_of : Grid → Frame
 frame_of grid = record { rows = grid.rows; cols = grid.cols; head = grid.head }
 
+-- the end of the run at the first unsound place of a map, or the map
+abbrev pub sound_or_end : ℕ → List ℕ → WholeMap → Option ℕ → Result WholeMap ScriptEnd
+sound_or_end cols name m None = Ok m
+sound_or_end cols name m (Some place) = Err (Input name (inputs.Unsound (place / cols + 1) (place % cols + 1)))
+
+-- the map of an input, or the end of the run where it is a drain map that is not sound
+unfoldable pub or_unsound : Frame → InputUse → WholeMap → Result WholeMap ScriptEnd
+or_unsound frame input m =
+    if is_kind Ldd input.kind
+    then sound_or_end frame.cols input.file m (first_unsound (record { rows = frame.rows; cols = frame.cols; codes = m }))
+    else Ok m
+
+-- a grid is read, then its text, its size and whether it is sound
+abbrev pub sound_run : Frame → InputUse → Run (Result WholeMap ScriptEnd)
+sound_run frame input = do
+  m ← map_run frame input.kind input.file
+  settled (or_unsound frame input m)
+
 -- the map of the input with the number n; the area map, which has the other number, was read before
 abbrev pub grid_input_run : ℕ → Grid → ℕ → InputUse → Run (Result WholeMap ScriptEnd)
-grid_input_run number area n input = if n == number then settled (Ok area.cells) else map_run (frame_of area) input.kind input.file
+grid_input_run number area n input = if n == number then settled (Ok area.cells) else sound_run (frame_of area) input
 
 -- one more input is read, by its role
 abbrev pub input_by_role : ℕ → Grid → Given → InputUse → Role → Run (Result Given ScriptEnd)
@@ -157,10 +176,17 @@ numbered_input list number = slice_index_or list number (record { file = []; rol
 abbrev pub inputs_given : Grid → Given → Inputs
 inputs_given area given = record { frame = frame_of area; maps = given.maps; tables = given.tables; series = given.series }
 
+-- the area map is read, then its text and whether it is sound
+abbrev pub area_run : InputUse → Run (Result Grid ScriptEnd)
+area_run input = do
+  area ← grid_run input.kind input.file
+  m ← settled (or_unsound (frame_of area) input area.cells)
+  settled (Ok area)
+
 -- the area map, which has this number, is read, and then each other input that is no stack, in their order
 abbrev pub inputs_run : List InputUse → ℕ → Run (Result Inputs ScriptEnd)
 inputs_run list number = do
-  area ← grid_run (numbered_input list number).kind (numbered_input list number).file
+  area ← area_run (numbered_input list number)
   given ← in_turn (one_more_input number area) nothing_given list
   settled (Ok (inputs_given area given))
 

@@ -15,7 +15,6 @@ pub data ScriptEnd : Type 0 where
   Missing : (name : List ℕ) → ScriptEnd
   TooLong : (name : List ℕ) → ScriptEnd
   Script : (fault : ScriptFault) → ScriptEnd
-  Unbuilt : (name : List ℕ) → ScriptEnd
   Input : (name : List ℕ) (kind : InputKind) → ScriptEnd
   TooManyTasks : (count : ℕ) → ScriptEnd
   Overflow : (at : OverAt) → ScriptEnd
@@ -26,7 +25,6 @@ why (RanToEnd files steps) = ByContents
 why (Missing name) = ByAbsence
 why (TooLong name) = ByLength
 why (Script fault) = ByContents
-why (Unbuilt name) = ByContents
 why (Input name kind) = ByContents
 why (TooManyTasks count) = ByContents
 why (Overflow at) = ByContents
@@ -42,7 +40,6 @@ session_outcome (session.Done files steps) = CameTo (RanToEnd files steps)
 session_outcome (session.Missing name) = CameTo (Missing name)
 session_outcome (session.TooLong name) = CameTo (TooLong name)
 session_outcome (session.Script fault) = CameTo (Script fault)
-session_outcome (session.Unbuilt name) = CameTo (Unbuilt name)
 session_outcome (session.Input name kind) = CameTo (Input name kind)
 session_outcome (session.TooManyTasks count) = CameTo (TooManyTasks count)
 session_outcome (session.Overflow at) = CameTo (Overflow at)

@@ -19,6 +19,7 @@ known_of inputs grids = record {
   maps = inputs.maps;
   tables = inputs.tables;
   series = inputs.series;
+  drains = [];
   stacks = grids;
   initial = [];
   last = [];

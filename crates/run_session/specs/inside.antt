@@ -3,5 +3,6 @@ pub mod Columns
 pub mod Outputs
 pub mod Parts
 pub mod Running
+pub mod Stages
 pub mod Standings
 pub mod Tallies

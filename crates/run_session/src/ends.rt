@@ -21,6 +21,8 @@ pub enum InputKind {
     Series(SeriesFault),
     /// The grid has other numbers of rows and columns than the area map.
     Size { rows: u32, cols: u32 },
+    /// The grid is a drain map that is not sound: the row and the column of its first place whose path fails, counted from 1.
+    Unsound { row: u32, col: u32 },
 }
 
 /// What is wrong with a script.
@@ -43,8 +45,6 @@ pub enum SessionEnd {
     TooLong(Word),
     /// The script has a fault.
     Script(ScriptFault),
-    /// The script of this name has something of the language that is not built yet.
-    Unbuilt(Word),
     /// The file of this name is no input as it is to be.
     Input { name: Word, kind: InputKind },
     /// The program is too large for the runner: the number that shows it.
@@ -68,8 +68,6 @@ pub enum Stop {
     TooLong(Word),
     /// The script has a fault.
     Script(ScriptFault),
-    /// The script of this name has something of the language that is not built yet.
-    Unbuilt(Word),
     /// The file of this name is no input as it is to be.
     Input { name: Word, kind: InputKind },
     /// The program is too large for the runner: the number that shows it.

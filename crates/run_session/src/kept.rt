@@ -1,13 +1,14 @@
-//! Maps that are kept, by the numbers of their operations.
+//! Maps that are kept, by the numbers of their operations, and drain maps by their numbers.
 
 ghost use Rattle.std.specs.Prelude.{◌≡◌, ◌==◌, if◌then◌else◌, ℕ};
-ghost use Rattle.map_meaning.specs.Maps.{step_cell};
+ghost use Rattle.map_meaning.specs.Maps.{nth, step_cell};
 ghost use Rattle.map_meaning.specs.Spans.{kept_map};
 ghost use Rattle.tile_map.specs.Args.{arg_cell};
-ghost use Rattle.run_session.specs.inside.Standings.{AscendFrom, IsOrdered, held_cell};
+ghost use Rattle.run_session.specs.inside.Standings.{AscendFrom, IsOrdered, codes_of, held_cell};
 
 use cell_values::Cell;
-use map_meaning::{Arg, Known, Operand, StepMap};
+use map_meaning::{Arg, Known, Operand, SharedDrain, StepMap};
+use sqlite_items::at;
 
 /// The cells of the kept map of the operation with this number, by halving; none where it is not kept.
 pub fn kept_cells(maps: &[StepMap], number: u32) -> &[Cell]
@@ -39,6 +40,16 @@ fn last_cells(known: &Known, step: u32, dynamic: u32, initial: u32) -> &[Cell]
     }
 }
 
+/// The codes of the drain map with this number; none where there is no such.
+pub fn drain_cells(drains: &[SharedDrain], number: u32) -> &[Cell]
+    ensures { result.now ≡ nth (codes_of drains.now) number }
+{
+    match at(drains, number as usize) {
+        Some(drain) => drain.drain().cells(),
+        None => &[],
+    }
+}
+
 /// An operand that an output names, where a map of an input has this place among the maps.
 pub fn held_arg<'a>(
     known: &'a Known,
@@ -65,5 +76,6 @@ pub fn held_arg<'a>(
         Operand::Last { dynamic, initial } => {
             Arg::Cells(last_cells(known, step, dynamic, initial))
         }
+        Operand::Drain(n) => Arg::Cells(drain_cells(known.drains.as_slice(), n)),
     }
 }

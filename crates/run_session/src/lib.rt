@@ -4,6 +4,7 @@
 //! the statements report. Its contract says so over the script's tree, statement by statement, for any folder and any runner.
 #![tactic(auto)]
 
+mod drains;
 mod ends;
 mod evaluating;
 mod files;
@@ -14,12 +15,14 @@ mod kept;
 mod known;
 mod laws;
 mod loading;
+mod masks;
 mod outputs;
 mod reports;
 mod samples;
 mod script;
 mod session;
 mod stacks;
+mod stages;
 mod start;
 mod step;
 mod steps;

@@ -4,8 +4,9 @@ ghost use Rattle.run_session.specs.inside.Parts.{IsReady, MakesFor};
 use crate::ends::Stop;
 use crate::inputs::{Inputs, read_inputs};
 use crate::script::read_program;
-use map_meaning::Program;
+use map_meaning::{Program, SharedDrain};
 use outside_io::Folder;
+use sqlite_items::Items;
 use std::alloc::Global;
 use std::sync::Arc;
 
@@ -14,6 +15,8 @@ use std::sync::Arc;
 pub struct Ready {
     pub program: Arc<Program>,
     pub inputs: Inputs,
+    /// For each input the drain map that it is, if it is one.
+    pub drains: Items<Option<SharedDrain>>,
 }
 
 /// Reads a script, and then its inputs.
@@ -21,7 +24,11 @@ pub fn load<F: Folder>(alloc: Global, folder: &mut F, name: &[u8]) -> Result<Rea
     ensures { MakesFor IsReady (load_run name.now) (F.state folder.old) (F.state folder.new) result }
 {
     let program = read_program(alloc, folder, name)?;
-    let inputs = read_inputs(alloc, folder, &program)?;
+    let sources = read_inputs(alloc, folder, &program)?;
     let program = Arc::new(alloc, program)?;
-    Ok(Ready { program, inputs })
+    Ok(Ready {
+        program,
+        inputs: sources.inputs,
+        drains: sources.drains,
+    })
 }

@@ -91,8 +91,8 @@ fn operand_input(operand: Operand) -> u32
     }
 }
 
-// The map of the input with the number n, which is a grid.
-fn map_of(alloc: Global, uses: &[InputUse], maps: &[Map], n: u32) -> Result<Map, AllocError>
+/// The map of the input with the number n, which is a grid.
+pub fn map_of(alloc: Global, uses: &[InputUse], maps: &[Map], n: u32) -> Result<Map, AllocError>
     requires few { length uses.now ≤ most_inputs }
     requires grid { IsSomeAnd (slice_get uses.now n) (λ input. is_grid_role input.role ≡ true) }
     ensures { IfOk result (λ m. m ≡ nth (at_inputs is_grid_role [] uses.now maps.now) n) }

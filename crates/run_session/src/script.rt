@@ -8,7 +8,6 @@ ghost use Rattle.run_session.specs.inside.Parts.{GivesEnd, IsProgramFor, Makes, 
 
 use crate::ends::{ScriptFault, Stop};
 use crate::files::fetch;
-use cell_values::Word;
 use map_meaning::Program;
 use outside_io::Folder;
 use script_syntax::{ReadScript, Script, read_script};
@@ -40,18 +39,14 @@ fn script_at<F: Folder>(alloc: Global, folder: &mut F, name: &[u8]) -> Result<Sc
 
 // The program of the script of this name.
 #[tactic(auto, unfolding(crate::specs::Course::checked_script))]
-fn program_of(alloc: Global, name: &[u8], script: &Script) -> Result<Program, Stop>
+fn program_of(alloc: Global, script: &Script) -> Result<Program, Stop>
     requires { IsWellMade script.now }
     ensures lowered { IfOk result (IsLowered script.now) }
-    ensures stops { IfErr result (StopsAt (checked_script name.now script.now)) }
+    ensures stops { IfErr result (StopsAt (checked_script script.now)) }
 {
     match lower(alloc, script) {
         Ok(program) => Ok(program),
         Err(LowerEnd::Meaning(fault)) => Err(Stop::Script(ScriptFault::Meaning(fault))),
-        Err(LowerEnd::Unbuilt) => match Word::new(alloc, name) {
-            Ok(word) => Err(Stop::Unbuilt(word)),
-            Err(_) => Err(Stop::Memory),
-        },
         Err(LowerEnd::Memory) => Err(Stop::Memory),
     }
 }
@@ -61,5 +56,5 @@ pub fn read_program<F: Folder>(alloc: Global, folder: &mut F, name: &[u8]) -> Re
     ensures { MakesFor IsProgramFor (checked_run name.now) (F.state folder.old) (F.state folder.new) result }
 {
     let script = script_at(alloc, folder, name)?;
-    program_of(alloc, name, &script)
+    program_of(alloc, &script)
 }

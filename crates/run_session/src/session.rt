@@ -5,7 +5,7 @@ ghost use Rattle.map_meaning.specs.Programs.{IsWellFormed};
 ghost use Rattle.run_session.specs.Asked.{CountsTasks, IfDone, WasAsked};
 ghost use Rattle.run_session.specs.Course.{Many, script_run, start_run, whole_run};
 ghost use Rattle.run_session.specs.Ends.{session_outcome, why};
-ghost use Rattle.run_session.specs.inside.Parts.{AreInputsOf, Makes, stop_outcome};
+ghost use Rattle.run_session.specs.inside.Parts.{AreDrainsOf, AreInputsOf, Makes, stop_outcome};
 ghost use Rattle.run_session.specs.inside.Running.{IsPrepared};
 ghost use Rattle.run_session.specs.inside.Standings.{program_plan};
 ghost use Rattle.run_session.specs.inside.Tallies.{HasRun, files_put, tally_of};
@@ -16,8 +16,9 @@ use crate::inputs::Inputs;
 use crate::loading::{Ready, load};
 use crate::start::{prepared, run_plan};
 use crate::work::Work;
-use map_meaning::{BlockRunner, Program};
+use map_meaning::{BlockRunner, Program, SharedDrain};
 use outside_io::Folder;
+use sqlite_items::Items;
 use std::alloc::Global;
 use std::sync::Arc;
 
@@ -44,10 +45,12 @@ fn run_start<F: Folder, R: BlockRunner>(
     runner: &mut R,
     program: Arc<Program>,
     inputs: Inputs,
+    drains: Items<Option<SharedDrain>>,
 ) -> Result<Tally, Stop>
     requires ready { R.ready runner.old }
     requires program { IsWellFormed program.value }
     requires inputs { AreInputsOf program.value.inputs inputs }
+    requires drains { AreDrainsOf inputs.frame program.value.inputs inputs.maps drains }
     ensures meets { Makes (start_run (R.admits runner.old program.value inputs.frame.rows inputs.frame.cols) (program_plan program.value inputs))
         (F.state folder.old) (F.state folder.new) result }
     ensures run { IfOk result (λ tally. HasRun (R.asked runner.old) (R.asked runner.new) program.value inputs (F.state folder.old) (F.state folder.new)) }
@@ -56,7 +59,7 @@ fn run_start<F: Folder, R: BlockRunner>(
     admitted(runner, &program, inputs.frame.rows, inputs.frame.cols)?;
     // A runner takes one step at least at a time, and is asked for one.
     let _block = runner.block();
-    let work = prepared(alloc, program, inputs)?;
+    let work = prepared(alloc, program, inputs, drains)?;
     run_plan(alloc, folder, runner, &work)?;
     Ok(tally(&work))
 }
@@ -75,8 +78,12 @@ fn run_named<F: Folder, R: BlockRunner>(
     ensures asked { let holds = (F.state folder.old).holds in
         R.asked runner.old [] → OnOk result (WasAsked (R.asked runner.new) name.now holds) }
 {
-    let Ready { program, inputs } = load(alloc, folder, name)?;
-    run_start(alloc, folder, runner, program, inputs)
+    let Ready {
+        program,
+        inputs,
+        drains,
+    } = load(alloc, folder, name)?;
+    run_start(alloc, folder, runner, program, inputs, drains)
 }
 
 // The answer for a stop.
@@ -88,7 +95,6 @@ fn session_end(stop: Stop) -> SessionEnd
         Stop::Missing(name) => SessionEnd::Missing(name),
         Stop::TooLong(name) => SessionEnd::TooLong(name),
         Stop::Script(fault) => SessionEnd::Script(fault),
-        Stop::Unbuilt(name) => SessionEnd::Unbuilt(name),
         Stop::Input { name, kind } => SessionEnd::Input { name, kind },
         Stop::TooManyTasks(count) => SessionEnd::TooManyTasks(count),
         Stop::Overflow(at) => SessionEnd::Overflow(at),
@@ -100,9 +106,9 @@ fn session_end(stop: Stop) -> SessionEnd
 
 /// Runs the script of this name, by the runner, over the files of the folder.
 ///
-/// The script is read, then the area map, then each other input that is no stack in the order of the section `binding`. The
-/// section `initial` is evaluated, and what its statements report is put, in their order, with the head of the area map. Then
-/// for each step the grids of its stacks are read, the section `dynamic` is evaluated, and what its statements report is put.
+/// The script is read, then the area map, then each other input that is no stack in the order of the section `binding`; a drain
+/// map is to be sound. The section `initial` is evaluated, stage by stage, each of which ends behind a statement of a drain map,
+/// and what its statements report is put, in their order, with the head of the area map. Then for each step the grids of its stacks are read, the section `dynamic` is evaluated, and what its statements report is put.
 /// At last the time series are put, with a row for each settled step: also where the files end the run at a step, but not after
 /// a fault of the folder, nor where step 0 is not settled. After a put that failed nothing more is put.
 pub fn run_script<F: Folder, R: BlockRunner>(

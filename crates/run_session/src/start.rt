@@ -3,29 +3,34 @@
 ghost use Rattle.std.specs.Prelude.{◌≡◌, ◌≤◌, [], None, IfOk};
 ghost use Rattle.map_meaning.specs.Programs.{IsWellFormed};
 ghost use Rattle.run_session.specs.Steps.{evaluated_run, plan_run};
-ghost use Rattle.run_session.specs.inside.Parts.{AreInputsOf, MakesFor};
+ghost use Rattle.run_session.specs.inside.Parts.{AreDrainsOf, AreInputsOf, MakesFor};
 ghost use Rattle.run_session.specs.inside.Running.{AsksAll, IsStart, IsPrepared};
 ghost use Rattle.run_session.specs.inside.Standings.{program_plan};
 
 use crate::ends::Stop;
-use crate::evaluating::evaluate;
 use crate::inputs::Inputs;
 use crate::outputs::{begin_samples, first_grids, stack_grids};
 use crate::reports::put_reports;
 use crate::stacks::stacks_among;
-use crate::step::shared_known;
+use crate::stages::{StageMaps, run_stages};
 use crate::steps::run_on;
 use crate::work::Work;
-use map_meaning::{BlockRunner, Program, Span, StepMap};
+use map_meaning::{BlockRunner, Program, SharedDrain};
 use outside_io::Folder;
 use sqlite_items::Items;
 use std::alloc::{AllocError, Global};
 use std::sync::Arc;
 
 /// What is run of a program over its inputs.
-pub fn prepared(alloc: Global, program: Arc<Program>, inputs: Inputs) -> Result<Work, AllocError>
+pub fn prepared(
+    alloc: Global,
+    program: Arc<Program>,
+    inputs: Inputs,
+    drains: Items<Option<SharedDrain>>,
+) -> Result<Work, AllocError>
     requires program { IsWellFormed program.value }
     requires inputs { AreInputsOf program.value.inputs inputs }
+    requires drains { AreDrainsOf inputs.frame program.value.inputs inputs.maps drains }
     ensures work { IfOk result IsPrepared }
     ensures program { IfOk result (λ work. work.program.value ≡ program.value) }
     ensures inputs { IfOk result (λ work. work.inputs ≡ inputs) }
@@ -36,50 +41,40 @@ pub fn prepared(alloc: Global, program: Arc<Program>, inputs: Inputs) -> Result<
     Ok(Work {
         program,
         inputs,
+        drains,
         stacks,
         firsts,
         grids,
     })
 }
 
-// Evaluates the section `initial`, and puts what it reports; its kept maps.
+// Evaluates the section `initial`, and puts what it reports; its kept maps and all drain maps.
 fn start<F: Folder, R: BlockRunner>(
     alloc: Global,
     folder: &mut F,
     runner: &mut R,
     work: &Work,
-) -> Result<Items<StepMap>, Stop>
+) -> Result<StageMaps, Stop>
     requires ready { R.ready runner.old }
     requires work { IsPrepared work.now }
     requires admitted { R.admits runner.old work.now.program.value work.now.inputs.frame.rows work.now.inputs.frame.cols ≡ None }
-    ensures meets { MakesFor (λ reports maps. IsStart (R.asked runner.old) (R.asked runner.new) work.now.program.value work.now.inputs maps)
+    ensures meets { MakesFor (λ reports left. IsStart (R.asked runner.old) (R.asked runner.new) work.now.program.value work.now.inputs left)
         (evaluated_run (program_plan work.now.program.value work.now.inputs) [] 0) (F.state folder.old) (F.state folder.new) result }
     ensures ready { R.ready runner.new }
     ensures block { R.block_of runner.new ≡ R.block_of runner.old }
     ensures admitted { R.admits runner.new work.now.program.value work.now.inputs.frame.rows work.now.inputs.frame.cols ≡ None }
 {
-    let nothing = Items::new(alloc);
-    let known = shared_known(
-        alloc,
-        &work.inputs,
-        Items::new(alloc),
-        nothing.as_slice(),
-        Items::new(alloc),
-    )?;
-    let span = Span::Initial {
-        first: 0,
-        end: work.program.initial.len() as u32,
-    };
-    let maps = evaluate(alloc, runner, &work.program, span, &known)?;
+    let left = run_stages(alloc, runner, work)?;
     put_reports(
         alloc,
         folder,
         &work.inputs.frame,
         0,
-        maps.as_slice(),
+        left.kept.as_slice(),
+        left.drains.as_slice(),
         work.firsts.as_slice(),
     )?;
-    Ok(maps)
+    Ok(left)
 }
 
 /// Step 0, and then the steps and the time series.
@@ -97,14 +92,7 @@ pub fn run_plan<F: Folder, R: BlockRunner>(
         (plan_run (program_plan work.now.program.value work.now.inputs)) (F.state folder.old) (F.state folder.new) result }
     ensures ready { R.ready runner.new }
 {
-    let initial = start(alloc, folder, runner, work)?;
+    let left = start(alloc, folder, runner, work)?;
     let mut samples = begin_samples(alloc, &work.program, &work.inputs)?;
-    run_on(
-        alloc,
-        folder,
-        runner,
-        work,
-        initial.as_slice(),
-        samples.as_mut_slice(),
-    )
+    run_on(alloc, folder, runner, work, &left, samples.as_mut_slice())
 }

@@ -8,9 +8,10 @@ ghost use Rattle.run_session.specs.inside.Standings.{IsWritable, program_plan};
 
 use crate::ends::Stop;
 use crate::samples::{Sample, put_samples};
+use crate::stages::StageMaps;
 use crate::step::step_on;
 use crate::work::Work;
-use map_meaning::{BlockRunner, StepMap};
+use map_meaning::BlockRunner;
 use outside_io::Folder;
 use sqlite_items::Items;
 use std::alloc::Global;
@@ -21,7 +22,7 @@ fn run_steps<F: Folder, R: BlockRunner>(
     folder: &mut F,
     runner: &mut R,
     work: &Work,
-    start: &[StepMap],
+    left: &StageMaps,
     samples: &mut [Sample],
 ) -> Result<(), Stop>
     requires ready { R.ready runner.old }
@@ -29,7 +30,7 @@ fn run_steps<F: Folder, R: BlockRunner>(
     requires work { IsPrepared work.now }
     requires admitted { R.admits runner.old work.now.program.value work.now.inputs.frame.rows work.now.inputs.frame.cols ≡ None }
     requires standing { IsStanding work.now.program.value work.now.inputs 0
-        (standing_at_start (program_plan work.now.program.value work.now.inputs)) start.now [] samples.old }
+        (standing_at_start (program_plan work.now.program.value work.now.inputs)) left.now [] samples.old }
     ensures meets { MakesSteps (λ t. AsksFrom (R.asked runner.old) (R.asked runner.new) work.now.program.value work.now.inputs t.grids) samples.new
         (steps_run (program_plan work.now.program.value work.now.inputs) (standing_at_start (program_plan work.now.program.value work.now.inputs)) 1 work.now.program.value.steps)
         (F.state folder.old) (F.state folder.new) result }
@@ -38,7 +39,7 @@ fn run_steps<F: Folder, R: BlockRunner>(
 {
     let mut last = Items::new(alloc);
     for step in 0..work.program.steps {
-        last = step_on(alloc, folder, runner, work, step + 1, start, last, samples)?;
+        last = step_on(alloc, folder, runner, work, step + 1, left, last, samples)?;
     }
     Ok(())
 }
@@ -60,7 +61,7 @@ pub fn run_on<F: Folder, R: BlockRunner>(
     folder: &mut F,
     runner: &mut R,
     work: &Work,
-    start: &[StepMap],
+    left: &StageMaps,
     samples: &mut [Sample],
 ) -> Result<(), Stop>
     requires ready { R.ready runner.old }
@@ -68,13 +69,13 @@ pub fn run_on<F: Folder, R: BlockRunner>(
     requires work { IsPrepared work.now }
     requires admitted { R.admits runner.old work.now.program.value work.now.inputs.frame.rows work.now.inputs.frame.cols ≡ None }
     requires standing { IsStanding work.now.program.value work.now.inputs 0
-        (standing_at_start (program_plan work.now.program.value work.now.inputs)) start.now [] samples.old }
+        (standing_at_start (program_plan work.now.program.value work.now.inputs)) left.now [] samples.old }
     ensures meets { MakesFor (λ t _. AsksFrom (R.asked runner.old) (R.asked runner.new) work.now.program.value work.now.inputs t.grids)
         (steps_and_series (program_plan work.now.program.value work.now.inputs) (standing_at_start (program_plan work.now.program.value work.now.inputs)) 1 work.now.program.value.steps)
         (F.state folder.old) (F.state folder.new) result }
     ensures ready { R.ready runner.new }
 {
-    match run_steps(alloc, folder, runner, work, start, samples) {
+    match run_steps(alloc, folder, runner, work, left, samples) {
         Ok(()) => put_samples(alloc, folder, samples),
         Err(stop) => {
             if !is_by_files(&stop) {

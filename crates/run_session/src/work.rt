@@ -1,6 +1,6 @@
 use crate::inputs::Inputs;
 use crate::stacks::StackUse;
-use map_meaning::{OutputUse, Program};
+use map_meaning::{OutputUse, Program, SharedDrain};
 use sqlite_items::Items;
 use std::sync::Arc;
 
@@ -9,6 +9,8 @@ use std::sync::Arc;
 pub struct Work {
     pub program: Arc<Program>,
     pub inputs: Inputs,
+    /// For each input the drain map that it is, if it is one.
+    pub drains: Items<Option<SharedDrain>>,
     /// The stacks among the inputs.
     pub stacks: Items<StackUse>,
     /// The outputs that are grids of `initial`.

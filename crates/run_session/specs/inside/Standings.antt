@@ -1,4 +1,4 @@
--- What a session keeps between steps, and what it stands for.
+-- What a session keeps between stages and steps, and what it stands for.
 use Rattle.std.specs.Prelude.{◌≡◌, ◌==◌, ◌+◌, ◌<◌, ◌≤◌, ℕ, pos, List, [], ◌∷◌, ◌++◌, All, length, map}
 use Rattle.std.specs.Prelude.{None, Some, Result, Ok, Err, if◌then◌else◌, ⊤}
 use Rattle.std.specs.declared.option.Option.{Option}
@@ -7,12 +7,13 @@ use Rattle.cell_values.specs.declared.cell.Cell.{Cell}
 use Rattle.cell_values.specs.declared.cell.Cell.TheVariants.{Mv}
 use Rattle.tile_map.specs.Cuts.{cell_at}
 use Rattle.time_series.specs.declared.row.SeriesRow.{SeriesRow}
+use Rattle.drain_meaning.specs.Drains.{DrainMap}
 use Rattle.map_meaning.specs.declared.known.Known.{Known}
 use Rattle.map_meaning.specs.declared.known.OverAt.{OverAt}
 use Rattle.map_meaning.specs.declared.known.StageEnd.{StageEnd}
 use Rattle.map_meaning.specs.declared.known.StepMap.{StepMap}
 use Rattle.map_meaning.specs.declared.program.Operand.{Operand}
-use Rattle.map_meaning.specs.declared.program.Operand.TheVariants.{Unused, Literal, Time, Input, Initial, Now, Last}
+use Rattle.map_meaning.specs.declared.program.Operand.TheVariants.{Unused, Literal, Time, Input, Initial, Now, Last, Drain}
 use Rattle.map_meaning.specs.declared.program.Operand.TheVariants as from
 use Rattle.map_meaning.specs.declared.program.OutputUse.{OutputUse}
 use Rattle.map_meaning.specs.declared.program.Program.{Program}
@@ -24,6 +25,7 @@ use Rattle.script_types.specs.Values.{Written, program_reports}
 use Rattle.run_session.specs.declared.inputs.Inputs.{Inputs}
 use Rattle.run_session.specs.declared.samples.Sample.{Sample}
 use Rattle.run_session.specs.declared.stacks.StackUse.{StackUse}
+use Rattle.run_session.specs.declared.stages.StageMaps.{StageMaps}
 use Rattle.run_session.specs.Ends.{ScriptEnd}
 use Rattle.run_session.specs.Evaluation.{scenes_over}
 use Rattle.run_session.specs.Samples.{Sampled, all_begun, id_columns, place_of_id}
@@ -45,16 +47,18 @@ program_plan program inputs = record {
   reports = outputs_over program inputs;
 }
 
--- what is known at a step, where these are the grids of its stacks, the kept maps of `initial` and those of the step before
-abbrev pub known_at : Inputs → List StepMap → List StepMap → List StepMap → Known
-known_at inputs grids initial last = record {
+-- what is known in a stage of `initial` or at a step, where these are the maps that stages left, the grids of the step's stacks
+-- and the kept maps of the step before
+abbrev pub known_at : Inputs → StageMaps → List StepMap → List StepMap → Known
+known_at inputs left grids last = record {
   rows = inputs.frame.rows;
   cols = inputs.frame.cols;
   maps = inputs.maps;
   tables = inputs.tables;
   series = inputs.series;
+  drains = left.drains;
   stacks = grids;
-  initial = initial;
+  initial = left.kept;
   last = last;
 }
 
@@ -74,6 +78,10 @@ abbrev pub AscendFrom : ℕ → List StepMap → Type 0
 AscendFrom n [] = ⊤
 AscendFrom n (m ∷ maps) = (n ≤ m.operation) × AscendFrom (m.operation + 1) maps
 
+-- the codes of drain maps
+abbrev pub codes_of : List DrainMap → List WholeMap
+codes_of drains = map (λ m. m.codes) drains
+
 -- ---- what outputs write
 
 -- a cell of an operand that an output names, by what is known at a step and the kept maps of the step itself; a map of an input
@@ -88,6 +96,7 @@ held_cell known now step input (Initial n) place = cell_at (kept_map known.initi
 held_cell known now step input (Now n) place = cell_at (kept_map now n) place
 held_cell known now step input (Last d i) place =
     cell_at (if step == 1 then kept_map known.initial i else kept_map known.last d) place
+held_cell known now step input (Drain n) place = cell_at (nth (codes_of known.drains) n) place
 
 -- what is known at a step stands in the order in which it is searched
 pub record IsOrdered (known : Known) : Type 0 where
@@ -95,16 +104,17 @@ pub record IsOrdered (known : Known) : Type 0 where
   pub initial : AscendFrom 0 known.initial
   pub last : AscendFrom 0 known.last
 
--- the map of an operand that names an operation of the span
-abbrev pub kept_of : List StepMap → Operand → WholeMap
-kept_of maps (Initial n) = kept_map maps n
-kept_of maps (Now n) = kept_map maps n
-kept_of maps _ = []
+-- the map of an operand that names an operation of the span or a drain map
+abbrev pub kept_of : List StepMap → List DrainMap → Operand → WholeMap
+kept_of maps drains (Initial n) = kept_map maps n
+kept_of maps drains (Now n) = kept_map maps n
+kept_of maps drains (Drain n) = nth (codes_of drains) n
+kept_of maps drains _ = []
 
--- what an output writes, from the kept maps of its span
-abbrev pub kept_report : List StepMap → OutputUse → Written
-kept_report maps output =
-    record { file = output.file; form = output.kind; kind = output.cell_kind; cells = kept_of maps output.value }
+-- what an output writes, from the kept maps of its span and the drain maps
+abbrev pub kept_report : List StepMap → List DrainMap → OutputUse → Written
+kept_report maps drains output =
+    record { file = output.file; form = output.kind; kind = output.cell_kind; cells = kept_of maps drains output.value }
 
 -- ---- time series
 

@@ -1,27 +1,43 @@
 -- What one more input gives, by its role.
-use Rattle.std.proofs.Common.{List, [], ◌∷◌, ◌++◌, sym, subst}
-use Rattle.lookup_table.specs.Form.{TableValue}
-use Rattle.time_series.specs.Form.{SeriesValue}
-use Rattle.map_meaning.specs.Maps.{WholeMap}
-use Rattle.run_session.specs.inside.Parts.{AreInputsOf}
-use Rattle.run_session.proofs.InputsMore.{map_more, series_more, stack_more, table_more}
+use Rattle.std.proofs.Common.{◌+◌, List, [], ◌∷◌, ◌++◌, ap, sym, subst}
+use Rattle.std.specs.declared.option.Option.{Option}
+use Rattle.outside_io.specs.inside.Parts.{seen_by}
+use Rattle.drain_meaning.specs.Drains.{DrainMap}
+use Rattle.grid_text.specs.declared.grid.Grid.{Grid}
+use Rattle.map_meaning.specs.declared.program.Role.{Role}
+use Rattle.map_meaning.specs.Programs.{is_grid_role}
+use Rattle.run_session.specs.Course.{input_by_role}
+use Rattle.run_session.specs.inside.Parts.{AreSourcesOf, Makes, area_grid, given_of}
+use Rattle.run_session.proofs.DrainInputs.{other_more}
+use Rattle.run_session.proofs.InputsMore.{stack_more}
 use Rattle.run_session.proofs.inputs.read_input.Goals as goal
-use Rattle.run_session.proofs.inputs.read_input.Goals.{in-Grid+in_ok-map-in-Grid+in_ok-push-in-Grid, in-Table+in_ok-table-in-Table+in_ok-push-in-Table, in-Series+in_ok-series-in-Series+in_ok-push-in-Series, in-Stack}
 
-pub returns-clause-more : goal.returns-clause-more
-returns-clause-more g c before are =
-    let old = c.args.inputs.now in
+pub returns-in-Table-clause-meets : goal.returns-in-Table-clause-meets
+returns-in-Table-clause-meets g c =
+    let state = g.F.Folder.state in
+    let old = c.args.sources.now.inputs in
+    let n = c.args.n in
+    let area : Grid = area_grid old.frame c.args.area.now.cells in
+    subst (λ (r : Role). Makes (input_by_role c.args.number area (given_of n old) c.args.input.now r) (state c.args.folder.now) (state c.add_table.new.folder) (seen_by (λ done. given_of (n + 1) c.add_table.new.sources.inputs) c.add_table.result))
+    (sym c.in-Table.is) (c.add_table.ensures.meets c.args.number area)
+
+pub returns-in-Series-clause-meets : goal.returns-in-Series-clause-meets
+returns-in-Series-clause-meets g c =
+    let state = g.F.Folder.state in
+    let old = c.args.sources.now.inputs in
+    let n = c.args.n in
+    let area : Grid = area_grid old.frame c.args.area.now.cells in
+    subst (λ (r : Role). Makes (input_by_role c.args.number area (given_of n old) c.args.input.now r) (state c.args.folder.now) (state c.add_series.new.folder) (seen_by (λ done. given_of (n + 1) c.add_series.new.sources.inputs) c.add_series.result))
+    (sym c.in-Series.is) (c.add_series.ensures.meets c.args.number area)
+
+pub returns-in_ok-push-in-Stack-clause-more : goal.returns-in_ok-push-in-Stack-clause-more
+returns-in_ok-push-in-Stack-clause-more g c before are =
+    let old = c.args.sources.now in
     let input = c.args.input.now in
     let list = before ++ input ∷ [] in
-    elim c.match-input.branch [
-      | in-Grid+in_ok-map-in-Grid+in_ok-push-in-Grid w ↦
-          let P : List WholeMap → Type 0 = λ maps. AreInputsOf list (record { frame = old.frame; maps = maps; tables = old.tables; series = old.series }) in
-          subst (AreInputsOf list) (sym w.inputs-is) (subst P (sym w.in_ok-push-in-Grid.ensures.ok) (map_more before old input are w.in_ok-map-in-Grid.map w.in-Grid.is w.in_ok-map-in-Grid.ensures.cells))
-      | in-Table+in_ok-table-in-Table+in_ok-push-in-Table w ↦
-          let P : List TableValue → Type 0 = λ tables. AreInputsOf list (record { frame = old.frame; maps = old.maps; tables = tables; series = old.series }) in
-          subst (AreInputsOf list) (sym w.inputs-is) (subst P (sym w.in_ok-push-in-Table.ensures.ok) (table_more before old input are _ w.in_ok-table-in-Table.table w.in-Table.is w.in_ok-table-in-Table.ensures.keys w.in_ok-table-in-Table.ensures.values))
-      | in-Series+in_ok-series-in-Series+in_ok-push-in-Series w ↦
-          let P : List SeriesValue → Type 0 = λ series. AreInputsOf list (record { frame = old.frame; maps = old.maps; tables = old.tables; series = series }) in
-          subst (AreInputsOf list) (sym w.inputs-is) (subst P (sym w.in_ok-push-in-Series.ensures.ok) (series_more before old input are w.in_ok-series-in-Series.series w.in-Series.is w.in_ok-series-in-Series.ensures.values))
-      | in-Stack w ↦ subst (AreInputsOf list) (sym w.inputs-is) (stack_more before old input are w.in-Stack.is)
-    ]
+    let P : List (Option DrainMap) → Type 0 = λ drains. AreSourcesOf list (record { inputs = old.inputs; drains = drains }) in
+    subst P (sym c.in_ok-push-in-Stack.ensures.ok)
+    (record {
+      inputs = stack_more before old.inputs input are.inputs c.in-Stack.is;
+      drains = other_more old.inputs.frame before old.inputs.maps old.drains input are.inputs.maps are.drains (ap is_grid_role c.in-Stack.is);
+    })

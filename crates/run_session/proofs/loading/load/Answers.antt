@@ -12,7 +12,7 @@ use Rattle.run_session.specs.declared.ends.Stop.TheVariants.{Memory}
 use Rattle.run_session.specs.declared.inputs.Inputs.{Inputs}
 use Rattle.run_session.specs.Course.{CheckedScript, Loaded, checked_run, inputs_read, inputs_run, load_run}
 use Rattle.run_session.specs.Ends.{ScriptEnd, why}
-use Rattle.run_session.specs.inside.Parts.{AreInputsOf, IsProgramFor, IsReady, stop_outcome}
+use Rattle.run_session.specs.inside.Parts.{AreDrainsOf, AreInputsOf, IsProgramFor, IsReady, stop_outcome}
 use Rattle.run_session.proofs.Rest.{after_inputs, makes_out}
 use Rattle.run_session.proofs.loading.load.Goals as goal
 
@@ -30,26 +30,26 @@ returns-in_err-program g c =
     makes_out IsReady (load_run name) _ _ c.from_residual.result _ c.from_residual.ensures.1
     (meets_stop why (checked_run name) inputs_read _ _ (stop_outcome _) c.in_err-program.ensures)
 
-pub returns-in_err-inputs : goal.returns-in_err-inputs
-returns-in_err-inputs g c =
+pub returns-in_err-sources : goal.returns-in_err-sources
+returns-in_err-sources g c =
     let name = c.args.name.now in
     let made = c.in_ok-program.ensures in
     let s = made.0 in
-    makes_out IsReady (load_run name) _ _ c.from_residual-in_err-inputs.result _ c.from_residual-in_err-inputs.ensures.1
+    makes_out IsReady (load_run name) _ _ c.from_residual-in_err-sources.result _ c.from_residual-in_err-sources.ensures.1
     (meets_on why (checked_run name) inputs_read _ _ _ s _ made.2
     (meets_stop why (inputs_run (inputs_of s.script) (area_number s.script)) (after_inputs s) _ _ (stop_outcome _)
-    (after_script s c.in_ok-program.program _ _ _ made.1 c.in_err-inputs.ensures.meets)))
+    (after_script s c.in_ok-program.program _ _ _ made.1 c.in_err-sources.ensures.meets)))
 
 pub returns-in_err-program-2 : goal.returns-in_err-program-2
 returns-in_err-program-2 g c =
     let name = c.args.name.now in
     let made = c.in_ok-program.ensures in
     let s = made.0 in
-    let inputs = c.in_ok-inputs.inputs in
+    let inputs = c.in_ok-sources.sources.inputs in
     makes_out IsReady (load_run name) _ _ c.from_residual-in_err-program-2.result Memory c.from_residual-in_err-program-2.ensures.1
     (meets_on why (checked_run name) inputs_read _ _ _ s (CutOff NoMemory) made.2
     (meets_on why (inputs_run (inputs_of s.script) (area_number s.script)) (after_inputs s) _ _ _ inputs (CutOff NoMemory)
-    (after_script s c.in_ok-program.program _ _ _ made.1 c.in_ok-inputs.ensures.meets)
+    (after_script s c.in_ok-program.program _ _ _ made.1 c.in_ok-sources.ensures.meets)
     (meets_no_memory (why_by why) (after_inputs s inputs) _ _ (read_keeps_all _))))
 
 pub returns : goal.returns
@@ -58,17 +58,18 @@ returns g c =
     let state = g.F.Folder.state c.read_inputs.new.folder in
     let made = c.in_ok-program.ensures in
     let s = made.0 in
-    let inputs = c.in_ok-inputs.inputs in
+    let inputs = c.in_ok-sources.sources.inputs in
     let l : Loaded = record { script = s.script; lines = s.lines; inputs = inputs } in
     let same : c.in_ok-program-2.program.value ≡ c.in_ok-program.program = c.in_ok-program-2.ensures.ok in (
       l,
       record {
         program = subst (IsProgramFor s) (sym same) made.1;
         inputs = refl;
-        maps = subst (λ (p : Program). AreInputsOf p.inputs inputs) (sym same) c.in_ok-inputs.ensures.inputs;
+        maps = subst (λ (p : Program). AreInputsOf p.inputs inputs) (sym same) c.in_ok-sources.ensures.sources.inputs;
+        drains = subst (λ (p : Program). AreDrainsOf inputs.frame p.inputs inputs.maps c.in_ok-sources.sources.drains) (sym same) c.in_ok-sources.ensures.sources.drains;
       },
       meets_on why (checked_run name) inputs_read _ _ _ s (CameTo (Ok l)) made.2
           (meets_on why (inputs_run (inputs_of s.script) (area_number s.script)) (after_inputs s) _ _ _ inputs (CameTo (Ok l))
-          (after_script s c.in_ok-program.program _ _ _ made.1 c.in_ok-inputs.ensures.meets)
+          (after_script s c.in_ok-program.program _ _ _ made.1 c.in_ok-sources.ensures.meets)
           (meets_settled (why_by why) (Ok l) state (CameTo (Ok l)) (refl, refl))),
     )

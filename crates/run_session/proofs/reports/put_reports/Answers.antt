@@ -13,7 +13,7 @@ use Rattle.run_session.proofs.reports.put_reports.Goals as goal
 pub returns-in_err-put_report-clause-meets : goal.returns-in_err-put_report-clause-meets
 returns-in_err-put_report-clause-meets g c =
     let put = report_run c.args.frame.now c.args.step in
-    let written = kept_report c.args.maps.now in
+    let written = kept_report c.args.maps.now c.args.drains.now in
     let outputs = c.args.outputs.now in
     let whole = in_turn put tt (map written outputs) in
     let i = c.loop-output.output-index in
@@ -25,7 +25,7 @@ returns-in_err-put_report-clause-meets g c =
 pub loop-output-preserved : goal.loop-output-preserved
 loop-output-preserved g c =
     let put = report_run c.args.frame.now c.args.step in
-    let written = kept_report c.args.maps.now in
+    let written = kept_report c.args.maps.now c.args.drains.now in
     let outputs = c.args.outputs.now in
     let whole = in_turn put tt (map written outputs) in
     let i = c.loop-output.output-index in
@@ -36,7 +36,7 @@ loop-output-preserved g c =
 pub returns-clause-meets : goal.returns-clause-meets
 returns-clause-meets g c =
     let put = report_run c.args.frame.now c.args.step in
-    let written = kept_report c.args.maps.now in
+    let written = kept_report c.args.maps.now c.args.drains.now in
     let outputs = c.args.outputs.now in
     let whole = in_turn put tt (map written outputs) in
     turn_done why put whole _ (map written (drop c.loop-output.output-index outputs)) tt _

@@ -12,5 +12,5 @@ abbrev pub invariant-loop-output : goal.invariant-loop-output
 invariant-loop-output g l =
     let state = g.F.Folder.state in
     let put = report_run l.frame l.step in
-    let written = map (kept_report l.maps) in
+    let written = map (kept_report l.maps l.drains) in
     Leads (why_by why) (in_turn put tt (written l.outputs)) (state l.fn.folder) (in_turn put tt (written (drop l.output-index l.outputs))) (state l.folder)

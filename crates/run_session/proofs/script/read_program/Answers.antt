@@ -10,7 +10,7 @@ pub returns-in_err-script : goal.returns-in_err-script
 returns-in_err-script g c =
     let name = c.args.name.now in
     makes_out IsProgramFor (checked_run name) _ _ c.from_residual.result _ c.from_residual.ensures.1
-    (meets_stop why (text_run name) (after_text name) _ _ (stop_outcome _) c.in_err-script.ensures.meets)
+    (meets_stop why (text_run name) after_text _ _ (stop_outcome _) c.in_err-script.ensures.meets)
 
 pub returns : goal.returns
 returns g c =

@@ -5,6 +5,7 @@ use Rattle.outside_io.specs.Runs.{in_turn}
 use Rattle.outside_io.specs.Causes.{CameTo, stopped_by, why_by}
 use Rattle.outside_io.specs.Met.{Meets}
 use Rattle.outside_io.specs.inside.Parts.{Settles}
+use Rattle.drain_meaning.specs.Drains.{DrainMap}
 use Rattle.map_meaning.specs.declared.known.Known.{Known}
 use Rattle.map_meaning.specs.declared.known.StepMap.{StepMap}
 use Rattle.map_meaning.specs.declared.program.OutputUse.{OutputUse}
@@ -58,7 +59,7 @@ evaluate-requires-clause-known g c =
     let same : c.as_slice.result.now ≡ stacks_among 0 program.inputs = c.as_slice.ensures ∙ c.requires.work.stacks in
     let grids = subst (λ (list : List StackUse). AreGridsOf places step list c.in_ok-grids.grids) same c.in_ok-grids.ensures.grids in
     subst (Knows program (step_span step)) (sym c.in_ok-known.ensures)
-    (step_knows program c.requires.work.formed inputs c.requires.work.inputs step (step - 1) e c.requires.some c.requires.there c.requires.standing.0 c.args.initial.now c.args.last c.args.samples.now c.requires.standing.1 c.in_ok-grids.grids grids)
+    (step_knows program c.requires.work.formed inputs c.requires.work.inputs step (step - 1) e c.requires.some c.requires.there c.requires.standing.0 c.args.left.now c.args.last c.args.samples.now c.requires.standing.1 c.in_ok-grids.grids grids)
 
 pub returns-in_err-maps-clause-meets : goal.returns-in_err-maps-clause-meets
 returns-in_err-maps-clause-meets g c s is =
@@ -74,7 +75,7 @@ returns-in_err-maps-clause-meets g c s is =
     let P : List StackUse → Type 0 = λ list. Meets (why_by why) (in_turn (one_more_grid inputs.frame step) [] list) (state c.args.folder.now) (state c.read_grids.new.folder) (CameTo (Ok c.in_ok-grids.grids)) in
     let Q : Known → Type 0 = λ known. Settles (why_by why) (stage_result (stage_of program (step_span step) known)) (stopped_by (stop_outcome c.in_err-maps.field-0.0)) in
     makes_out _ (step_run plan s step) _ _ c.from_residual-in_err-maps.result _ c.from_residual-in_err-maps.ensures.1
-    (no_maps program c.requires.work.formed inputs c.requires.work.inputs step (step - 1) e c.requires.some c.requires.there s c.args.initial.now c.args.last c.args.samples.now is c.in_ok-grids.grids grids
+    (no_maps program c.requires.work.formed inputs c.requires.work.inputs step (step - 1) e c.requires.some c.requires.there s c.args.left.now c.args.last c.args.samples.now is c.in_ok-grids.grids grids
     _ _ (subst P same c.in_ok-grids.ensures.meets) (stop_outcome _) (subst Q c.in_ok-known.ensures c.in_err-maps.ensures.settles))
 
 pub report_step-requires-clause-ascend : goal.report_step-requires-clause-ascend
@@ -90,7 +91,7 @@ report_step-requires-clause-ascend g c =
     let P : List StackUse → Type 0 = λ list. Meets (why_by why) (in_turn (one_more_grid inputs.frame step) [] list) (state c.args.folder.now) (state c.read_grids.new.folder) (CameTo (Ok c.in_ok-grids.grids)) in
     let value = ap (λ known. stage_result (stage_of program (step_span step) known)) (sym c.in_ok-known.ensures) ∙ c.in_ok-maps.ensures.settles.0 in
     subst (AscendFrom 0) (sym c.as_slice-2.ensures)
-    (maps_ascend program c.requires.work.formed inputs c.requires.work.inputs step (step - 1) e c.requires.some c.requires.there c.requires.standing.0 c.args.initial.now c.args.last c.args.samples.now c.requires.standing.1 c.in_ok-grids.grids grids
+    (maps_ascend program c.requires.work.formed inputs c.requires.work.inputs step (step - 1) e c.requires.some c.requires.there c.requires.standing.0 c.args.left.now c.args.last c.args.samples.now c.requires.standing.1 c.in_ok-grids.grids grids
     _ _ (subst P same c.in_ok-grids.ensures.meets) c.in_ok-maps.maps value)
 
 pub report_step-requires-clause-ordered : goal.report_step-requires-clause-ordered
@@ -103,7 +104,7 @@ report_step-requires-clause-ordered g c =
     let same : c.as_slice.result.now ≡ stacks_among 0 program.inputs = c.as_slice.ensures ∙ c.requires.work.stacks in
     let grids = subst (λ (list : List StackUse). AreGridsOf places step list c.in_ok-grids.grids) same c.in_ok-grids.ensures.grids in
     subst IsOrdered (sym (c.deref.ensures ∙ c.in_ok-known.ensures))
-    (known_ordered program c.requires.work.formed inputs c.requires.work.inputs step (step - 1) e c.requires.some c.requires.there c.requires.standing.0 c.args.initial.now c.args.last c.args.samples.now c.requires.standing.1 c.in_ok-grids.grids grids)
+    (known_ordered program c.requires.work.formed inputs c.requires.work.inputs step (step - 1) e c.requires.some c.requires.there c.requires.standing.0 c.args.left.now c.args.last c.args.samples.now c.requires.standing.1 c.in_ok-grids.grids grids)
 
 pub report_step-requires-clause-counts : goal.report_step-requires-clause-counts
 report_step-requires-clause-counts g c =
@@ -117,10 +118,11 @@ report_step-requires-clause-counts g c =
     let grids = subst (λ (list : List StackUse). AreGridsOf places step list c.in_ok-grids.grids) same c.in_ok-grids.ensures.grids in
     let P : List StackUse → Type 0 = λ list. Meets (why_by why) (in_turn (one_more_grid inputs.frame step) [] list) (state c.args.folder.now) (state c.read_grids.new.folder) (CameTo (Ok c.in_ok-grids.grids)) in
     let value = ap (λ known. stage_result (stage_of program (step_span step) known)) (sym c.in_ok-known.ensures) ∙ c.in_ok-maps.ensures.settles.0 in
-    let Q : List StepMap → List OutputUse → Type 0 = λ maps outputs. All (λ (o : OutputUse). length (kept_of maps o.value) ≡ places) outputs in
-    subst (λ maps. Q maps c.as_slice-3.result.now) (sym c.as_slice-2.ensures) (subst (Q c.in_ok-maps.maps) (sym (c.as_slice-3.ensures ∙ c.requires.work.grids))
-    (maps_count program c.requires.work.formed inputs c.requires.work.inputs step (step - 1) e c.requires.some c.requires.there c.requires.standing.0 c.args.initial.now c.args.last c.args.samples.now c.requires.standing.1 c.in_ok-grids.grids grids
-    _ _ (subst P same c.in_ok-grids.ensures.meets) c.in_ok-maps.maps value))
+    let held = ap (λ (k : Known). k.drains) (c.deref.ensures ∙ c.in_ok-known.ensures) in
+    let Q : List DrainMap → List StepMap → List OutputUse → Type 0 = λ drains maps outputs. All (λ (o : OutputUse). length (kept_of maps drains o.value) ≡ places) outputs in
+    subst (λ ds. Q ds c.as_slice-2.result.now c.as_slice-3.result.now) (sym held) (subst (λ maps. Q c.args.left.now.drains maps c.as_slice-3.result.now) (sym c.as_slice-2.ensures) (subst (Q c.args.left.now.drains c.in_ok-maps.maps) (sym (c.as_slice-3.ensures ∙ c.requires.work.grids))
+    (maps_count program c.requires.work.formed inputs c.requires.work.inputs step (step - 1) e c.requires.some c.requires.there c.requires.standing.0 c.args.left.now c.args.last c.args.samples.now c.requires.standing.1 c.in_ok-grids.grids grids
+    _ _ (subst P same c.in_ok-grids.ensures.meets) c.in_ok-maps.maps value)))
 
 pub returns-in_err-report_step-clause-meets : goal.returns-in_err-report_step-clause-meets
 returns-in_err-report_step-clause-meets g c s is =
@@ -135,10 +137,11 @@ returns-in_err-report_step-clause-meets g c s is =
     let grids = subst (λ (list : List StackUse). AreGridsOf places step list c.in_ok-grids.grids) same c.in_ok-grids.ensures.grids in
     let P : List StackUse → Type 0 = λ list. Meets (why_by why) (in_turn (one_more_grid inputs.frame step) [] list) (state c.args.folder.now) (state c.read_grids.new.folder) (CameTo (Ok c.in_ok-grids.grids)) in
     let value = ap (λ known. stage_result (stage_of program (step_span step) known)) (sym c.in_ok-known.ensures) ∙ c.in_ok-maps.ensures.settles.0 in
-    let Q : List StepMap → List OutputUse → Type 0 = λ maps outputs. Meets (why_by why) (in_turn (report_run inputs.frame step) tt (map (kept_report maps) outputs)) (state c.read_grids.new.folder) (state c.report_step.new.folder) (stopped_by (stop_outcome c.in_err-report_step.field-0.0)) in
-    let puts = subst (Q c.in_ok-maps.maps) (c.as_slice-3.ensures ∙ c.requires.work.grids) (subst (λ maps. Q maps c.as_slice-3.result.now) c.as_slice-2.ensures c.in_err-report_step.ensures.meets) in
+    let held = ap (λ (k : Known). k.drains) (c.deref.ensures ∙ c.in_ok-known.ensures) in
+    let Q : List DrainMap → List StepMap → List OutputUse → Type 0 = λ drains maps outputs. Meets (why_by why) (in_turn (report_run inputs.frame step) tt (map (kept_report maps drains) outputs)) (state c.read_grids.new.folder) (state c.report_step.new.folder) (stopped_by (stop_outcome c.in_err-report_step.field-0.0)) in
+    let puts = subst (Q c.args.left.now.drains c.in_ok-maps.maps) (c.as_slice-3.ensures ∙ c.requires.work.grids) (subst (λ maps. Q c.args.left.now.drains maps c.as_slice-3.result.now) c.as_slice-2.ensures (subst (λ ds. Q ds c.as_slice-2.result.now c.as_slice-3.result.now) held c.in_err-report_step.ensures.meets)) in
     makes_out _ (step_run plan s step) _ _ c.from_residual-in_err-report_step.result _ c.from_residual-in_err-report_step.ensures.1
-    (put_stops program c.requires.work.formed inputs c.requires.work.inputs step (step - 1) e c.requires.some c.requires.there s c.args.initial.now c.args.last c.args.samples.now is c.in_ok-grids.grids grids
+    (put_stops program c.requires.work.formed inputs c.requires.work.inputs step (step - 1) e c.requires.some c.requires.there s c.args.left.now c.args.last c.args.samples.now is c.in_ok-grids.grids grids
     _ _ (subst P same c.in_ok-grids.ensures.meets) c.in_ok-maps.maps value _ (stop_outcome _) puts)
 
 pub returns-clause-meets : goal.returns-clause-meets
@@ -157,20 +160,21 @@ returns-clause-meets g c s is =
     let P : List StackUse → Type 0 = λ list. Meets (why_by why) (in_turn (one_more_grid inputs.frame step) [] list) (state c.args.folder.now) (state c.read_grids.new.folder) (CameTo (Ok stacks)) in
     let read = subst P same c.in_ok-grids.ensures.meets in
     let value = ap (λ known. stage_result (stage_of program (step_span step) known)) (sym c.in_ok-known.ensures) ∙ c.in_ok-maps.ensures.settles.0 in
-    let Q : List StepMap → List OutputUse → Type 0 = λ maps outputs. Meets (why_by why) (in_turn (report_run inputs.frame step) tt (map (kept_report maps) outputs)) (state c.read_grids.new.folder) (state c.report_step.new.folder) (CameTo (Ok tt)) in
-    let puts = subst (Q maps) (c.as_slice-3.ensures ∙ c.requires.work.grids) (subst (λ maps. Q maps c.as_slice-3.result.now) c.as_slice-2.ensures c.in_ok-report_step.ensures.meets) in
-    let known = known_at inputs stacks c.args.initial.now c.args.last in
-    let t = standing_here program c.requires.work.formed inputs c.requires.work.inputs step n e c.requires.some c.requires.there s c.args.initial.now c.args.last c.args.samples.now is stacks grids _ _ read maps value in
-    let stands = stands_here program c.requires.work.formed inputs c.requires.work.inputs step n e c.requires.some c.requires.there s c.args.initial.now c.args.last c.args.samples.now is stacks grids _ _ read maps value in
+    let held = ap (λ (k : Known). k.drains) (c.deref.ensures ∙ c.in_ok-known.ensures) in
+    let Q : List DrainMap → List StepMap → List OutputUse → Type 0 = λ drains maps outputs. Meets (why_by why) (in_turn (report_run inputs.frame step) tt (map (kept_report maps drains) outputs)) (state c.read_grids.new.folder) (state c.report_step.new.folder) (CameTo (Ok tt)) in
+    let puts = subst (Q c.args.left.now.drains maps) (c.as_slice-3.ensures ∙ c.requires.work.grids) (subst (λ maps. Q c.args.left.now.drains maps c.as_slice-3.result.now) c.as_slice-2.ensures (subst (λ ds. Q ds c.as_slice-2.result.now c.as_slice-3.result.now) held c.in_ok-report_step.ensures.meets)) in
+    let known = known_at inputs c.args.left.now stacks c.args.last in
+    let t = standing_here program c.requires.work.formed inputs c.requires.work.inputs step n e c.requires.some c.requires.there s c.args.left.now c.args.last c.args.samples.now is stacks grids _ _ read maps value in
+    let stands = stands_here program c.requires.work.formed inputs c.requires.work.inputs step n e c.requires.some c.requires.there s c.args.left.now c.args.last c.args.samples.now is stacks grids _ _ read maps value in
     let rows = ap (λ (k : Known). map (with_held_row k c.as_slice-2.result.now step) c.args.samples.now) (c.deref.ensures ∙ c.in_ok-known.ensures) ∙ ap (λ maps. map (with_held_row known maps step) c.args.samples.now) c.as_slice-2.ensures in
-    let asked = step_asked program c.requires.work.formed inputs c.requires.work.inputs step n e c.requires.some c.requires.there s c.args.initial.now c.args.last c.args.samples.now is stacks grids in
-    let A : Known → Type 0 = λ k. IsRunOf program inputs t.grids step (record { program = program; span = step_span step; known = k }) in (
+    let asked = step_asked program c.requires.work.formed inputs c.requires.work.inputs step n e c.requires.some c.requires.there s c.args.left.now c.args.last c.args.samples.now is stacks grids in
+    let A : Known → Type 0 = λ k. IsRunOf program inputs t.grids (step_span step) (record { program = program; span = step_span step; known = k }) in (
       t,
       record {
         grids = stacks;
         more = refl;
-        stands = subst (λ samples. IsStanding program inputs step t c.args.initial.now maps samples) (sym (c.in_ok-report_step.ensures.rows ∙ rows)) stands;
+        stands = subst (λ samples. IsStanding program inputs step t c.args.left.now maps samples) (sym (c.in_ok-report_step.ensures.rows ∙ rows)) stands;
         asks = λ runs was. (record { program = program; span = step_span step; known = c.in_ok-known.known.value }, subst A (sym c.in_ok-known.ensures) asked, c.in_ok-maps.ensures.asked runs was);
       },
-      put_all program c.requires.work.formed inputs c.requires.work.inputs step n e c.requires.some c.requires.there s c.args.initial.now c.args.last c.args.samples.now is stacks grids _ _ read maps value _ puts,
+      put_all program c.requires.work.formed inputs c.requires.work.inputs step n e c.requires.some c.requires.there s c.args.left.now c.args.last c.args.samples.now is stacks grids _ _ read maps value _ puts,
     )

@@ -19,7 +19,7 @@ step_on-requires-clause-standing g c =
     let inputs = c.args.work.now.inputs in
     let k = c.loop-step.step in
     let e : k ≡ k + 1 - 1 = omega arith in
-    (c.loop-step.invariant.s, subst (λ n. IsStanding program inputs n c.loop-step.invariant.s c.args.start.now c.loop-step.last c.loop-step.samples) e c.loop-step.invariant.stands)
+    (c.loop-step.invariant.s, subst (λ n. IsStanding program inputs n c.loop-step.invariant.s c.args.left.now c.loop-step.last c.loop-step.samples) e c.loop-step.invariant.stands)
 
 pub returns-in_err-last-clause-meets : goal.returns-in_err-last-clause-meets
 returns-in_err-last-clause-meets g c =
@@ -35,7 +35,7 @@ returns-in_err-last-clause-meets g c =
     let s = inv.s in
     let e : k ≡ k + 1 - 1 = omega arith in
     let at = c.in_err-last.field-0.0 in
-    let stands = subst (λ n. IsStanding program inputs n s c.args.start.now c.loop-step.last c.loop-step.samples) e inv.stands in
+    let stands = subst (λ n. IsStanding program inputs n s c.args.left.now c.loop-step.last c.loop-step.samples) e inv.stands in
     let meets = next_stops plan s (k + 1) (state c.loop-step.folder) (state c.step_on.new.folder) (stop_outcome at) (c.in_err-last.ensures.meets s stands) in
     let stopped = turn_stop why_steps (next_step plan) whole (state c.args.folder.now) (range_with_len (k + 1) (steps - k)) s (state c.loop-step.folder) (state c.step_on.new.folder) (k + 1) (range_with_len (k + 1 + 1) (steps - (k + 1))) (steps_outcome s.samples (stop_outcome at)) (next_number k steps (subst (λ n. k < n) count c.loop-step-test.true)) inv.leads meets in
     let by : CutsOff at ⊎ (c.step_on.new.samples ≡ c.loop-step.samples) → steps_outcome s.samples (stop_outcome at) ≡ steps_outcome (map sampled_of c.step_on.new.samples) (stop_outcome at) = λ r.
@@ -59,7 +59,7 @@ loop-step-preserved g c =
     let count : c.deref.result.now.steps ≡ steps = ap (λ (p : Program). p.steps) c.deref.ensures in
     let s = inv.s in
     let e : k ≡ k + 1 - 1 = omega arith in
-    let stands = subst (λ n. IsStanding program inputs n s c.args.start.now c.loop-step.last c.loop-step.samples) e inv.stands in
+    let stands = subst (λ n. IsStanding program inputs n s c.args.left.now c.loop-step.last c.loop-step.samples) e inv.stands in
     let made = c.in_ok-last.ensures.meets s stands in
     let t = made.0 in
     let settled = made.1 in

@@ -23,7 +23,7 @@ invariant-loop-step g l =
       admitted : g.R.BlockRunner.admits l.runner program inputs.frame.rows inputs.frame.cols ≡ None;
       below : l.step ≤ program.steps;
       s : Standing;
-      stands : IsStanding program inputs l.step s l.start l.last l.samples;
+      stands : IsStanding program inputs l.step s l.left l.last l.samples;
       leads : Leads (why_by why_steps) (steps_run plan (standing_at_start plan) 1 program.steps) (state l.fn.folder) (in_turn (next_step plan) s (range_with_len (l.step + 1) (program.steps - l.step))) (state l.folder);
       asks : AsksSoFar (asked l.fn.runner) (asked l.runner) program inputs s.grids l.step;
     }
