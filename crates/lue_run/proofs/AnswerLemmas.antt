@@ -5,7 +5,7 @@ use Rattle.outside_io.specs.State.{WroteFront, Wrote}
 use Rattle.outside_io.specs.Causes.{RunOutcome, CameTo, CutOff, ReadFault, WriteFault, NoMemory}
 use Rattle.outside_io.specs.Met.{Follows}
 use Rattle.outside_io.proofs.Callers.{if_told, meets_forgotten}
-use Rattle.run_session.specs.Ends.{RanToEnd, Missing, TooLong, Script, Unbuilt, Input, TooManyTasks, Overflow}
+use Rattle.run_session.specs.Ends.{RanToEnd, Missing, TooLong, Script, Input, TooManyTasks, Overflow}
 use Rattle.lue_run.specs.declared.ended.Ended.{Ended}
 use Rattle.lue_run.specs.declared.ended.Ended.TheVariants as top
 use Rattle.lue_run.specs.Words.{command_of}
@@ -35,7 +35,6 @@ module _ (call : Call) where
   shown_of (CameTo (OfScript (Missing name))) usage m = m.cause
   shown_of (CameTo (OfScript (TooLong name))) usage m = m.cause
   shown_of (CameTo (OfScript (Script fault))) usage m = tt
-  shown_of (CameTo (OfScript (Unbuilt name))) usage m = tt
   shown_of (CameTo (OfScript (Input name kind))) usage m = tt
   shown_of (CameTo (OfScript (TooManyTasks count))) usage m = tt
   shown_of (CameTo (OfScript (Overflow at))) usage m = tt

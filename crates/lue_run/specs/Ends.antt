@@ -1,7 +1,7 @@
 -- How the course of a call ends, and the answer for it.
 use Rattle.outside_io.specs.Causes.{Fault, ReadFault, WriteFault, NoMemory, RunOutcome, CameTo, CutOff}
 use Rattle.outside_io.specs.Causes.{Why, ByContents}
-use Rattle.run_session.specs.Ends.{ScriptEnd, RanToEnd, Missing, TooLong, Script, Unbuilt, Input, TooManyTasks, Overflow, why}
+use Rattle.run_session.specs.Ends.{ScriptEnd, RanToEnd, Missing, TooLong, Script, Input, TooManyTasks, Overflow, why}
 use Rattle.lue_run.specs.declared.ended.Ended.{Ended}
 use Rattle.lue_run.specs.declared.ended.Ended.TheVariants as top
 
@@ -21,7 +21,6 @@ script_answer (RanToEnd files steps) = top.Done files steps
 script_answer (Missing name) = top.Missing name
 script_answer (TooLong name) = top.TooLong name
 script_answer (Script fault) = top.Script fault
-script_answer (Unbuilt name) = top.Unbuilt name
 script_answer (Input name kind) = top.Input name kind
 script_answer (TooManyTasks count) = top.TooManyTasks count
 script_answer (Overflow at) = top.Overflow at

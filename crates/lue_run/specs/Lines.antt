@@ -6,11 +6,11 @@ use Rattle.script_types.specs.declared.fault.Place.{Place}
 use Rattle.script_types.specs.declared.fault.Place.TheVariants.{Binding, Area, Statement}
 use Rattle.map_meaning.specs.declared.known.OverAt.{OverAt}
 use Rattle.run_session.specs.declared.ends.InputKind.{InputKind}
-use Rattle.run_session.specs.declared.ends.InputKind.TheVariants.{Grid, Table, Series, Size}
+use Rattle.run_session.specs.declared.ends.InputKind.TheVariants.{Grid, Table, Series, Size, Unsound}
 use Rattle.run_session.specs.declared.ends.ScriptFault.{ScriptFault}
 use Rattle.run_session.specs.declared.ends.ScriptFault.TheVariants.{Syntax, Meaning}
 use Rattle.lue_run.specs.declared.ended.Ended.{Ended}
-use Rattle.lue_run.specs.declared.ended.Ended.TheVariants.{Done, Usage, Missing, TooLong, Script, Unbuilt, Input, TooManyTasks, Overflow}
+use Rattle.lue_run.specs.declared.ended.Ended.TheVariants.{Done, Usage, Missing, TooLong, Script, Input, TooManyTasks, Overflow}
 use Rattle.lue_run.specs.declared.ended.Ended.TheVariants.{FolderReadFault, FolderWriteFault, OutFault, Memory}
 use Rattle.lue_run.specs.Kinds.{grid_word, table_word, series_word, syntax_word, meaning_word}
 
@@ -46,6 +46,7 @@ input_line name (Table fault) =
 input_line name (Series fault) =
     codes "input " ++ name ++ codes " series " ++ series_word fault.kind ++ codes " line " ++ decimal fault.line ++ codes "\n"
 input_line name (Size rows cols) = codes "input " ++ name ++ codes " size " ++ decimal rows ++ codes " " ++ decimal cols ++ codes "\n"
+input_line name (Unsound row col) = codes "input " ++ name ++ codes " unsound " ++ decimal row ++ codes " " ++ decimal col ++ codes "\n"
 
 -- the line of an overflow
 abbrev pub over_line : OverAt → List ℕ
@@ -68,7 +69,6 @@ answer_row_of Usage = answer_row (codes "usage\n") 2
 answer_row_of (Missing name) = answer_row (named_line (codes "missing ") name) 4
 answer_row_of (TooLong name) = answer_row (named_line (codes "too long ") name) 4
 answer_row_of (Script fault) = answer_row (script_line fault) 3
-answer_row_of (Unbuilt name) = answer_row (named_line (codes "unbuilt ") name) 11
 answer_row_of (Input name kind) = answer_row (input_line name kind) 4
 answer_row_of (TooManyTasks count) = answer_row (codes "tasks " ++ decimal count ++ codes "\n") 6
 answer_row_of (Overflow at) = answer_row (over_line at) 5

@@ -15,8 +15,6 @@ pub enum Ended {
     TooLong(Word),
     /// The script has a fault.
     Script(ScriptFault),
-    /// The script of this name has something of the language that is not built yet.
-    Unbuilt(Word),
     /// The file of this name is no input as it is to be.
     Input { name: Word, kind: InputKind },
     /// The script has too many tasks for the runner: the number that shows it.

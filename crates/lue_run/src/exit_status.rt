@@ -18,6 +18,5 @@ pub fn status(end: &Ended) -> u8
         Ended::FolderWriteFault(_) => 8,
         Ended::OutFault { .. } => 9,
         Ended::Memory => 10,
-        Ended::Unbuilt(_) => 11,
     }
 }

@@ -67,6 +67,10 @@ fn input_line(alloc: Global, name: &Word, kind: InputKind) -> Result<Vec<u8>, Al
             put_number(&mut line, b" size ", rows as u64)?;
             put_number(&mut line, b" ", cols as u64)?;
         }
+        InputKind::Unsound { row, col } => {
+            put_number(&mut line, b" unsound ", row as u64)?;
+            put_number(&mut line, b" ", col as u64)?;
+        }
     }
     line.push(b'\n')?;
     Ok(line)
@@ -96,7 +100,6 @@ pub fn line(alloc: Global, end: &Ended) -> Result<Vec<u8>, AllocError>
         Ended::Missing(name) => with_name(alloc, b"missing ", name),
         Ended::TooLong(name) => with_name(alloc, b"too long ", name),
         Ended::Script(fault) => script_line(alloc, fault),
-        Ended::Unbuilt(name) => with_name(alloc, b"unbuilt ", name),
         Ended::Input { name, kind } => input_line(alloc, name, *kind),
         Ended::TooManyTasks(count) => tasks_line(alloc, *count),
         Ended::Overflow(at) => overflow_line(alloc, at),

@@ -3,6 +3,7 @@ ghost use Rattle.run_session.specs.Ends.{session_outcome, why};
 ghost use Rattle.lue_run.specs.Course.{plain_run};
 
 use cell_values::Word;
+use flow_task::BaseKit;
 use outside_io::Folder;
 use plain_eval::PlainRunner;
 use run_session::{SessionEnd, run_script};
@@ -12,5 +13,5 @@ use std::alloc::Global;
 pub fn run_plain<F: Folder>(alloc: Global, name: &Word, folder: &mut F) -> SessionEnd
     ensures { Meets why (plain_run name.now) (F.state folder.old) (F.state folder.new) (session_outcome result) }
 {
-    run_script(alloc, name.bytes(), folder, &mut PlainRunner::new())
+    run_script(alloc, name.bytes(), folder, &mut PlainRunner::new(BaseKit))
 }

@@ -26,7 +26,6 @@ fn ended(end: SessionEnd) -> Ended
         SessionEnd::Missing(name) => Ended::Missing(name),
         SessionEnd::TooLong(name) => Ended::TooLong(name),
         SessionEnd::Script(fault) => Ended::Script(fault),
-        SessionEnd::Unbuilt(name) => Ended::Unbuilt(name),
         SessionEnd::Input { name, kind } => Ended::Input { name, kind },
         SessionEnd::TooManyTasks(count) => Ended::TooManyTasks(count),
         SessionEnd::Overflow(at) => Ended::Overflow(at),
