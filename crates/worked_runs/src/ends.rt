@@ -15,7 +15,7 @@ type Case = (&'static str, u8, &'static str);
 const LONG_NAME: &str = "areamap r.asc; initial \
     AAAAAAAAAABBBBBBBBBBCCCCCCCCCCDDDDDDDDDDEEEEEEEEEEFFFFFFFFFFGGGGG = 1;";
 
-static SCRIPTS: [Case; 23] = [
+static SCRIPTS: [Case; 24] = [
     // the first fault of the text
     ("", 3, "script 1:1 end\n"),
     ("areamap r.asc; initial C = 1 $ 2;", 3, "script 1:30 byte\n"),
@@ -31,17 +31,6 @@ static SCRIPTS: [Case; 23] = [
         "areamap r.asc; initial C = windowtotal(r, 3) +;",
         3,
         "script 1:47 token\n",
-    ),
-    // something that is not built, before each fault of meaning
-    (
-        "areamap r.asc; initial C = windowtotal(r, 3);",
-        11,
-        "unbuilt m.mod\n",
-    ),
-    (
-        "areamap r.asc; initial C = Z; D = maptotal(C);",
-        11,
-        "unbuilt m.mod\n",
     ),
     // the first fault of meaning
     (
@@ -78,6 +67,21 @@ static SCRIPTS: [Case; 23] = [
         "binding N = n.asc : nominal; areamap r.asc; initial X = 1; Y = 1; C = X + N;",
         3,
         "script statement 3 kind-mismatch\n",
+    ),
+    (
+        "areamap r.asc; initial C = windowtotal(1, 2);",
+        3,
+        "script statement 1 bad-window\n",
+    ),
+    (
+        "areamap r.asc; initial X = 1; C = accuflux(5, X);",
+        3,
+        "script statement 2 drain-place\n",
+    ),
+    (
+        "binding L = n.asc : ldd; areamap r.asc; timer 1 1 1; dynamic K = L;",
+        3,
+        "script statement 1 drain-place\n",
     ),
     (
         "areamap r.asc; initial report C = 1; report C = 2;",

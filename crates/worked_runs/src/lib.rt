@@ -3,6 +3,8 @@
 #![tactic(auto)]
 
 #[cfg(test)]
+mod drains;
+#[cfg(test)]
 mod ends;
 #[cfg(test)]
 mod examples;
@@ -12,6 +14,8 @@ mod faults;
 mod files;
 #[cfg(test)]
 mod noting;
+#[cfg(test)]
+mod regions;
 #[cfg(test)]
 mod runners;
 #[cfg(test)]

@@ -2,19 +2,8 @@
 //! language and of a run.
 
 use crate::runs::expect_end;
-use crate::steps_files::{File, expect_files, folder_with};
-use std::alloc::Global;
-use std::process::Abort;
+use crate::steps_files::{Case, expect_case, folder_with};
 use std::test::Fail;
-
-/// A script, the files that are there, the status, the line, and what is put, in order.
-type Case = (
-    &'static str,
-    &'static [File],
-    u8,
-    &'static str,
-    &'static [File],
-);
 
 /// A stack that is read and written.
 const STACK: &str =
@@ -531,12 +520,6 @@ static FAULTS: [Case; 8] = [
         &[],
     ),
 ];
-// A script ends so, over these files.
-fn expect_case(rt: &impl Abort, alloc: Global, case: &Case) -> Result<(), Fail> {
-    let mut folder = folder_with(alloc, case.0, case.1)?;
-    expect_end(rt, alloc, "plain m.mod", &mut folder, case.2, case.3)?;
-    expect_files(rt, alloc, &folder, case.4, case.0)
-}
 
 #[test]
 fn reads_stacks_at_their_steps(rt: HostRuntime) -> Result<(), Fail> {

@@ -1,4 +1,5 @@
-//! Runs over two steps, with a table, a series, a stack and time series, in which each call of the folder fails in turn.
+//! Runs in which each call of the folder fails in turn: over two steps, with a table, a series, a stack and time series, and
+//! over stages and a step, with a drain map, windows and areas.
 
 use crate::runs::{end_of, expect_end};
 use crate::scant::ScantFolder;
@@ -17,7 +18,7 @@ pub const SCRIPT: &str =
     report W = cover(Wet, timeinput(P)); report U = timeoutput(Id, B);";
 
 /// The files of the script.
-pub static FILES: [File; 5] = [
+pub const FILES: &[File] = &[
     ("id.asc", "1 2"),
     ("t.tbl", "1 10\n2 20\n"),
     ("r.tss", "1 1 2\n2 3 4\n"),
@@ -26,7 +27,7 @@ pub static FILES: [File; 5] = [
 ];
 
 /// What is put, in order.
-static PUTS: [File; 7] = [
+const PUTS: &[File] = &[
     ("B", "10 20"),
     ("S0000000.001", "11.5 22.25"),
     ("W0000000.001", "1.5 2.25"),
@@ -43,7 +44,18 @@ static PUTS: [File; 7] = [
 ];
 
 /// A call of the folder that fails: its number, how many files are put before it, the status and the line.
-static CALLS: [(u64, usize, u8, &str); 14] = [
+type Call = (u64, usize, u8, &'static str);
+
+/// A script, its files, what is put, and its calls with the one past the last.
+type Model = (
+    &'static str,
+    &'static [File],
+    &'static [File],
+    &'static [Call],
+);
+
+/// The calls of the script.
+const CALLS: &[Call] = &[
     (1, 0, 7, "read fault m.mod\n"),
     (2, 0, 7, "read fault id.asc\n"),
     (3, 0, 7, "read fault t.tbl\n"),
@@ -60,49 +72,92 @@ static CALLS: [(u64, usize, u8, &str); 14] = [
     (14, 7, 0, "done files=7 steps=2\n"),
 ];
 
+static MODELS: [Model; 2] = [
+    (SCRIPT, FILES, PUTS, CALLS),
+    // a drain map among the inputs, and one that is computed and put
+    (
+        "binding A = a.asc; L = l.asc : ldd; B = b.asc; areamap A; timer 1 1 1; initial W = windowtotal(B, 3); \
+            report K = lddmask(L, W >= 3); report C = areaarea(boolean(B)); dynamic report Q = accuflux(K, A);",
+        &[("a.asc", "1 1 1"), ("l.asc", "6 6 5"), ("b.asc", "1 0 3")],
+        &[
+            ("K", "1e31 6 5"),
+            ("C", "2 1 2"),
+            ("Q0000000.001", "1e31 1 2"),
+        ],
+        &[
+            (1, 0, 7, "read fault m.mod\n"),
+            (2, 0, 7, "read fault a.asc\n"),
+            (3, 0, 7, "read fault l.asc\n"),
+            (4, 0, 7, "read fault b.asc\n"),
+            (5, 0, 8, "write fault K\n"),
+            (6, 1, 8, "write fault C\n"),
+            (7, 2, 8, "write fault Q0000000.001\n"),
+            (8, 3, 0, "done files=3 steps=1\n"),
+        ],
+    ),
+];
+
 // The folder of the script, one of whose calls is to fail; none where the number is 0.
-fn folder_failing(alloc: Global, call: u64) -> Result<MemFolder, Fail> {
-    let mut folder = folder_with(alloc, SCRIPT, &FILES)?;
+fn folder_failing(alloc: Global, model: &Model, call: u64) -> Result<MemFolder, Fail> {
+    let mut folder = folder_with(alloc, model.0, model.1)?;
     folder.fail_on(vec![in alloc; call]?);
     Ok(folder)
 }
 
+// What is put before that many files are.
+fn puts_before(model: &Model, puts: usize) -> &'static [File] {
+    let (before, _) = model.2.split_at(puts.min(model.2.len()));
+    before
+}
+
 // A run in which this call of the folder fails ends so.
-fn expect_fault(
-    rt: &impl Abort,
-    alloc: Global,
-    row: &(u64, usize, u8, &'static str),
-) -> Result<(), Fail> {
+fn expect_fault(rt: &impl Abort, alloc: Global, model: &Model, row: &Call) -> Result<(), Fail> {
     let (call, puts, answer, line) = *row;
-    let mut folder = folder_failing(alloc, call)?;
+    let mut folder = folder_failing(alloc, model, call)?;
     expect_end(rt, alloc, "plain m.mod", &mut folder, answer, line)?;
-    let (before, _) = PUTS.split_at(puts.min(PUTS.len()));
-    expect_files(rt, alloc, &folder, before, line)
+    expect_files(rt, alloc, &folder, puts_before(model, puts), line)
 }
 
 #[test]
-fn tells_the_call_of_a_step_that_fails(rt: HostRuntime) -> Result<(), Fail> {
-    for row in &CALLS {
-        expect_fault(&rt, rt.alloc(), row)?;
+fn tells_the_call_that_fails_in_a_stage_or_a_step(rt: HostRuntime) -> Result<(), Fail> {
+    for model in &MODELS {
+        for row in model.3 {
+            expect_fault(&rt, rt.alloc(), model, row)?;
+        }
     }
     Ok(())
 }
 
-// A run in which this call finds no memory ends so and writes nothing.
-fn expect_no_memory(rt: &impl Abort, alloc: Global, call: u64, puts: usize) -> Result<(), Fail> {
-    let mut folder = ScantFolder::new(folder_failing(alloc, 0)?, call);
+// A run in which this call finds no memory ends so and writes nothing; the one past the last call is not made.
+fn expect_no_memory(rt: &impl Abort, alloc: Global, model: &Model, row: &Call) -> Result<(), Fail> {
+    let (call, puts, stands, _) = *row;
+    let mut folder = ScantFolder::new(folder_failing(alloc, model, 0)?, call);
     let mut out = MemSink::new();
     let end = end_of(alloc, "plain m.mod", &mut folder, &mut out)?;
-    assert_eq!(rt; status(&end), 10, "at call {call}");
-    assert!(rt; out.bytes().is_empty(), "a line at call {call}");
-    let (before, _) = PUTS.split_at(puts.min(PUTS.len()));
-    expect_files(rt, alloc, &folder.folder, before, "no memory")
+    let is_past = stands == 0;
+    assert_eq!(rt;
+        status(&end),
+        if is_past { 0 } else { 10 },
+        "at call {call}"
+    );
+    assert_eq!(rt; out.bytes().is_empty(), !is_past, "a line at call {call}");
+    expect_files(
+        rt,
+        alloc,
+        &folder.folder,
+        puts_before(model, puts),
+        "no memory",
+    )
 }
 
 #[test]
-fn ends_in_a_step_without_memory_and_without_a_line(rt: HostRuntime) -> Result<(), Fail> {
-    for (call, puts, _, _) in &CALLS[..13] {
-        expect_no_memory(&rt, rt.alloc(), *call, *puts)?;
+fn ends_in_a_stage_or_a_step_without_memory_and_without_a_line(
+    rt: HostRuntime,
+) -> Result<(), Fail> {
+    for model in &MODELS {
+        for row in model.3 {
+            expect_no_memory(&rt, rt.alloc(), model, row)?;
+        }
     }
     Ok(())
 }

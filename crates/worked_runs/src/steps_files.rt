@@ -1,5 +1,6 @@
 //! The files of the tests of steps. Maps have one row, of as many cells as are written.
 
+use crate::runs::expect_end;
 use outside_io::MemFolder;
 use std::alloc::Global;
 use std::process::Abort;
@@ -7,6 +8,15 @@ use std::test::Fail;
 
 /// A file: its name, and the row of a grid, or the whole text where it has a line feed.
 pub type File = (&'static str, &'static str);
+
+/// A script, the files that are there, the status, the line, and what is put, in order.
+pub type Case = (
+    &'static str,
+    &'static [File],
+    u8,
+    &'static str,
+    &'static [File],
+);
 
 // A grid of one row as a text, with this line below its head.
 fn grid_text(alloc: Global, row: &str, nodata: &str) -> Result<String, Fail> {
@@ -73,4 +83,11 @@ pub(crate) fn expect_files(
         expect_file(rt, alloc, folder, i as u64, file)?;
     }
     Ok(())
+}
+
+/// A script ends so, over these files.
+pub(crate) fn expect_case(rt: &impl Abort, alloc: Global, case: &Case) -> Result<(), Fail> {
+    let mut folder = folder_with(alloc, case.0, case.1)?;
+    expect_end(rt, alloc, "plain m.mod", &mut folder, case.2, case.3)?;
+    expect_files(rt, alloc, &folder, case.4, case.0)
 }

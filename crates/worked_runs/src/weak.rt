@@ -2,6 +2,7 @@
 
 ghost use Rattle.std.specs.Prelude.{None, ⊤};
 
+use flow_task::BaseKit;
 use map_meaning::{BlockRunner, Known, Program, Span, StageEnd};
 use plain_eval::PlainRunner;
 use std::alloc::{AllocError, Global};
@@ -10,7 +11,7 @@ use std::sync::Arc;
 /// A runner that passes on to the plain one what it is asked, and then answers want of memory.
 #[derive(Drop)]
 pub struct WeakRunner {
-    pub plain: PlainRunner,
+    pub plain: PlainRunner<BaseKit>,
 }
 
 impl BlockRunner for WeakRunner {
