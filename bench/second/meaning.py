@@ -11,7 +11,7 @@ WINDOWS = {"windowtotal": ("S", "S"), "windowaverage": ("S", "S"), "windowminimu
 # What each word takes, place by place, and gives: places that are marked `=` agree, and so does a result that is `=`.
 SIGNATURES = {
     **{word: [(("S", "S"), "S")] for word in ("+", "-", "*", "/", "idiv", "mod")},
-    **{word: [(("S",), "S")] for word in ("negative", "abs", "rounddown", "roundup", "roundoff")},
+    **{word: [(("S",), "S")] for word in ("unary -", "abs", "rounddown", "roundup", "roundoff")},
     **{word: [(("OS=", "OS="), "=")] for word in ("min", "max")},
     **{word: [(("BNOSD=", "BNOSD="), "B")] for word in ("==", "!=")},
     **{word: [(("OS=", "OS="), "B")] for word in ("<", "<=", ">", ">=")},
@@ -279,6 +279,7 @@ class Meaning:
         return tree
 
     def fit(self, word, operands, places, result):
+        """The call with its operands, of which each number has a kind now; a drain map is no operation of its own."""
         agreed = next((one.kind for one, place in zip(operands, places) if place and place[-1] == "=" and one.kind), None)
         fitted = []
         for one, place in zip(operands, places):
@@ -298,4 +299,4 @@ class Meaning:
             if one.kind not in kinds or place[-1] == "=" and one.kind != agreed:
                 raise Wrong("kind-mismatch")
             fitted.append(one)
-        return Settled(word, agreed if result == "=" else result, fitted, operations=1)
+        return Settled(word, agreed if result == "=" else result, fitted, operations=0 if result == "L" else 1)

@@ -30,7 +30,7 @@ def _mod(a, b):
 # Operations at one place of which a missing operand makes a missing result.
 AT_A_PLACE = {
     "+": lambda a, b: a + b, "-": lambda a, b: a - b, "*": lambda a, b: rounded(Fraction(a * b, UNIT)),
-    "/": _div, "idiv": _idiv, "mod": _mod, "negative": lambda a: -a, "abs": abs,
+    "/": _div, "idiv": _idiv, "mod": _mod, "unary -": lambda a: -a, "abs": abs,
     "rounddown": _floor, "roundup": lambda a: -_floor(-a),
     "roundoff": lambda a: rounded(Fraction(a, UNIT)) * UNIT,
     "min": min, "max": max,

@@ -9,6 +9,7 @@ from .script import SyntaxFault, read_script
 from .texts import UNIT, Fault, look_up, read_grid, read_series, read_table, stack_file, write_grid, write_series
 
 LONGEST_SCRIPT, LONGEST_FILE = 1_048_576, 268_435_456
+READ_FAULT = 7
 FILE_WORD = re.compile(r"[A-Za-z0-9_][A-Za-z0-9_.+\-]{0,63}\Z")
 
 
@@ -42,8 +43,9 @@ class Run:
                 end = one
                 break
             settled = step
-        for word, kind, columns, rows in self.samples:
-            self.put(word, write_series(kind, columns, rows))
+        if not end or end.status != READ_FAULT:
+            for word, kind, columns, rows in self.samples:
+                self.put(word, write_series(kind, columns, rows))
         return (end.line, end.status) if end else (f"done files={len(self.puts)} steps={settled}", 0)
 
     # ---- files
@@ -54,7 +56,7 @@ class Run:
         except FileNotFoundError:
             raise End(f"missing {name}", 4) from None
         except OSError:
-            raise End(f"read fault {name}", 7) from None
+            raise End(f"read fault {name}", READ_FAULT) from None
         if len(text) > limit:
             raise End(f"too long {name}", 4)
         return text

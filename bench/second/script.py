@@ -227,7 +227,7 @@ class Reader:
     def signed(self):
         if self.sees("-"):
             self.take("-")
-            return Call("negative", [self.signed()])
+            return Call("unary -", [self.signed()])
         return self.operand()
 
     def operand(self):
