@@ -32,29 +32,32 @@ def write(folder, files):
         (folder / name).write_text(text, encoding="ascii")
 
 
+def held(folder):
+    return {one.name: one.read_bytes() for one in folder.iterdir()}
+
+
 def wanted(folder):
-    """What a run has to put, print and end with, by the second evaluation; of two puts of one name the last."""
+    """What the folder has to hold, and what a run has to print and to end with, by the second evaluation."""
     puts, line, status = evaluate(folder, WORDS)
-    return dict(puts), line, status
+    return {**held(folder), **dict(puts)}, line, status
 
 
-def answered(program, folder, given):
-    """What a run of the program puts, prints and ends with."""
+def answered(program, folder):
+    """What the folder holds after a run of the program, what that printed and how it ended."""
     run = subprocess.run([program, *WORDS], cwd=folder, stdin=subprocess.DEVNULL, capture_output=True, timeout=120)
-    puts = {one.name: one.read_bytes() for one in folder.iterdir() if one.name not in given}
-    return puts, (run.stdout + run.stderr).decode("latin-1"), run.returncode
+    return held(folder), (run.stdout + run.stderr).decode("latin-1"), run.returncode
 
 
 def difference(want, got):
     """What the two answers differ in, or None."""
-    puts, line, status = want
+    files, line, status = want
     if got[1] != line + "\n":
         return f"printed {got[1].strip()!r}, not {line!r}"
     if got[2] != status:
         return f"status {got[2]}, not {status}"
-    for name in sorted(set(puts) | set(got[0])):
-        if puts.get(name) != got[0].get(name):
-            return f"another {name}" if name in puts and name in got[0] else f"{name} is {'not ' if name in puts else ''}put"
+    for name in sorted(set(files) | set(got[0])):
+        if files.get(name) != got[0].get(name):
+            return f"another {name}" if name in files and name in got[0] else f"{name} is {'not ' if name in files else ''}put"
     return None
 
 
@@ -64,7 +67,7 @@ def compare(program, files, keep):
         folder = Path(place)
         write(folder, files)
         want = wanted(folder)
-        wrong = difference(want, answered(program, folder, files))
+        wrong = difference(want, answered(program, folder))
     if wrong:
         write(keep, files)
     return want[1], wrong
