@@ -1,4 +1,4 @@
-//! Times calls that no script reaches yet, for `make bench`: `tiles`, `cells`, `maps`, `table`, `turns`, `drains` or `windows`. Without a word it says these.
+//! Times single calls, for `make bench`: `tiles`, `cells`, `maps`, `table`, `turns`, `drains` or `windows`. Without a word it says these.
 #![tactic(auto)]
 
 mod best;
