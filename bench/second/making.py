@@ -17,6 +17,20 @@ LARGE = {"S": ("9000000000000", "-9000000000000", "8999999999999.5", "3000"), "N
 INFIX = {"+": "+", "-": "-", "*": "*", "/": "/", "idiv": "idiv", "mod": "mod", "==": "==", "!=": "ne", "<": "<", "<=": "le",
          ">": "gt", ">=": ">=", "and": "and", "or": "|", "xor": "xor"}
 STEPS = {1: (1, -1), 2: (1, 0), 3: (1, 1), 4: (0, -1), 5: (0, 0), 6: (0, 1), 7: (-1, -1), 8: (-1, 0), 9: (-1, 1)}
+SIZES = ((1, 1), (1, 4), (1, 7), (2, 3), (3, 3), (4, 4), (5, 3), (2, 17), (9, 8))
+STRAYS = (
+    # names: not there, not assigned yet, of another kind or role
+    "Nowhere", "X1", "X2", "X3", "X4", "X9", "T1", "C0", "S0", "N0", "L0", "W0",
+    # calls out of their places
+    "lddmask(L0, B0)", "lddmask(5, B0)", "time()", "timeinput(W0)", "timeinput(W1)", "timeinput(S0)", "timeoutput(N0, S0)",
+    "timeinputscalar(R, 1)", "lookupscalar(S0, 1)",
+    # words that are none
+    "average(1)", "copy(S0)", "negative(S0)", "lookupldd(Ts1, 1)", "timeinputldd(Rs, 1)",
+    # operands of another number or kind, and numbers that are no value of the kind of their place
+    "min(1)", "windowtotal(S0)", "areatotal(1)", "mapminimum(1, 2)", "accuflux(5, S0)", "catchment(L0, 1.5)", "areaarea(1.5)",
+    "catchment(L0, S0)", "upstream(S0, 1)", "maptotal(N0)", "areaarea(S0)", "windowmajority(S0, 3)", "boolean(L0)",
+    "directional(L0)", "if(B0 then L0)", "L0 == L0", "cover(L0, 5)",
+)
 WRONG_LENGTHS = ("2", "0", "33", "1.5", "-3", "A", "(3+0)", "time()")
 
 
@@ -42,7 +56,7 @@ class Making:
 
     def __init__(self, draw):
         self.draw = draw
-        self.rows, self.cols = draw.choice(((1, 1), (1, 4), (2, 3), (3, 3), (4, 4), (5, 3), (1, 7)))
+        self.rows, self.cols = draw.choice(SIZES)
         self.wild = draw.random() < 0.35
         self.large = draw.random() < 0.15
         self.files, self.entries, self.lines = {}, [], []
@@ -168,14 +182,7 @@ class Making:
 
     def stray(self):
         """What seldom fits."""
-        if self.chance(0.3):
-            return self.draw.choice(("lddmask(L0, B0)", "X1", "X2", "X3", "X4", "X9", "time()", "timeinput(W1)", "timeinputscalar(R, 1)"))
-        return self.draw.choice(("Nowhere", "average(1)", "time()", "X1", "X7", "T1", "L0", "N0", "S0", "lddmask(5, B0)",
-                                 "timeoutput(N0, S0)", "windowtotal(S0)", "accuflux(5, S0)", "L0 == L0", "cover(L0, 5)", "W0",
-                                 "timeinput(W0)", "timeinput(S0)", "lookupscalar(S0, 1)", "min(1)", "C0", "negative(S0)",
-                                 "maptotal(N0)", "areaarea(S0)", "areaarea(1.5)", "windowmajority(S0, 3)", "catchment(L0, 1.5)",
-                                 "catchment(L0, S0)", "upstream(S0, 1)", "boolean(L0)", "directional(L0)", "if(B0 then L0)",
-                                 "areatotal(1)", "mapminimum(1, 2)", "copy(S0)", "lookupldd(Ts1, 1)", "timeinputldd(Rs, 1)"))
+        return self.draw.choice(STRAYS)
 
     def value(self, kind, depth, free=True):
         """A formula of this kind, no deeper than this; a number without a kind only where it is free to take this one."""
