@@ -107,10 +107,11 @@ fn session_end(stop: Stop) -> SessionEnd
 /// Runs the script of this name, by the runner, over the files of the folder.
 ///
 /// The script is read, then the area map, then each other input that is no stack in the order of the section `binding`; a drain
-/// map is to be sound. The section `initial` is evaluated, stage by stage, each of which ends behind a statement of a drain map,
-/// and what its statements report is put, in their order, with the head of the area map. Then for each step the grids of its stacks are read, the section `dynamic` is evaluated, and what its statements report is put.
-/// At last the time series are put, with a row for each settled step: also where the files end the run at a step, but not after
-/// a fault of the folder, nor where step 0 is not settled. After a put that failed nothing more is put.
+/// map is to be sound. The section `initial` is evaluated in stages, one behind each statement of a drain map, and what its
+/// statements report is put, in their order, with the head of the area map. Then for each step the grids of its stacks are
+/// read, the section `dynamic` is evaluated, and what its statements report is put. At last the time series are put, with a row
+/// for each settled step: also where the files end the run at a step, but not after a fault of the folder, nor where step 0 is
+/// not settled. After a put that failed nothing more is put.
 pub fn run_script<F: Folder, R: BlockRunner>(
     alloc: Global,
     name: &[u8],

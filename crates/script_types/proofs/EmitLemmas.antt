@@ -1,13 +1,14 @@
 -- That the operations which are written of an expression compute it and are well formed: leaf by leaf, operand by operand, call
 -- by call.
-use Rattle.std.proofs.Common.{◌≡◌, ℕ, zero, suc, ◌+◌, ◌-◌, ◌<◌, ◌≤◌, true, false, ℤ, int_le, ◌≤ℤ◌, List, [], ◌∷◌, ◌++◌, length, map, refl, sym, ap, subst, ◌∙◌, Ok, Err, Result, arith, append_assoc, append-nil, length-append}
-use Rattle.std.specs.Prelude.{Some, slice_get, slice_index_or, option_map}
-use Rattle.std.specs.List.{filter_map, list_all}
+use Rattle.std.proofs.Common.{◌≡◌, Bool, not, if◌then◌else◌, ℕ, zero, suc, ◌+◌, ◌-◌, ◌<◌, ◌≤◌, true, false, ℤ, int_le, ◌≤ℤ◌, List, [], ◌∷◌, ◌++◌, length, map, refl, sym, ap, subst, ◌∙◌, Ok, Err, Result, arith, append_assoc, append-nil, length-append}
+use Rattle.std.specs.Prelude.{◌&&◌, Some, slice_get, slice_index_or, option_map}
+use Rattle.std.specs.List.{list_all}
 use Rattle.std.proofs.lemmas.Int.{ints}
 use Rattle.std.proofs.lemmas.List.{length-map, map-append}
 use Rattle.std.proofs.Math.Seq.{get_or-append_seam}
 use Rattle.text_base.specs.Results.{◌>>=◌}
 use Rattle.cell_values.specs.declared.kind.Kind.{Kind}
+use Rattle.cell_values.specs.declared.kind.Kind.TheVariants.{Ldd}
 use Rattle.cell_values.specs.declared.cell.Cell.{Cell}
 use Rattle.cell_values.specs.declared.cell.Cell.TheVariants.{Mv, Val}
 use Rattle.cell_values.specs.Kinds.{IsValue, greatest, is_value, least}
@@ -24,24 +25,24 @@ use Rattle.map_meaning.specs.Evaluation.{Done, operand_map, operation_value, ope
 use Rattle.map_meaning.specs.Maps.{WholeMap, nth}
 use Rattle.map_meaning.specs.Programs.{IsFileOf, IsInput, IsOperationOf, are_used_first, file_role, is_unused, kinds_of, operand_kind, operands_of, operation_kind}
 use Rattle.map_meaning.specs.Scenes.{Scene, setting_at}
-use Rattle.map_meaning.specs.Table.{HasKinds, map_row, row_of}
+use Rattle.map_meaning.specs.Table.{HasKinds, goes_along_drains, is_focal, is_kind, is_window_length, map_row, row_of}
 use Rattle.map_meaning.specs.Trees.{Environment, Site, TreeMeaning, applied_in, meaning_of, operations_in as count_in, values_from_left}
-use Rattle.map_meaning.proofs.Callers.{meaning_of-Input, meaning_of-Name, meaning_of-Number, meaning_of-Stack, meaning_of-Time, operation_values-append}
+use Rattle.map_meaning.proofs.Callers.{meaning_of-Input, meaning_of-Name, meaning_of-Number, meaning_of-Stack, meaning_of-Time, operation_values-append, same_kind}
 use Rattle.script_types.specs.declared.typed.Section.{Section}
 use Rattle.script_types.specs.declared.typed.Section.TheVariants.{Initial, Dynamic}
 use Rattle.script_types.specs.Statements.{is_dynamic, operations_of}
-use Rattle.script_types.specs.inside.Fits.{Ground, fits}
-use Rattle.script_types.specs.inside.Nodes.{IsCall, IsLeaf}
+use Rattle.script_types.specs.inside.Drains.{IsDrainBelow, drain_in, drain_number, drain_numbers}
+use Rattle.script_types.specs.inside.Fits.{Ground, fits, is_input_of}
+use Rattle.script_types.specs.inside.Nodes.{IsCall, IsLeaf, first_place}
 use Rattle.script_types.specs.inside.Sections.{HaveForm, Holder, HoldsMaps, IsGiven, MayRead, NamesBefore, Stands, maps_in, own_operand, span_in, with_maps}
 use Rattle.script_types.specs.inside.Sound.{is_cell, is_sound}
-use Rattle.script_types.specs.inside.Values.{AllBefore, AreGiven, Emits, EmitsAll, HasOperands}
-use Rattle.script_types.proofs.FitLemmas.{both-left, both-right, fits-grid, fits-name, fits-stack, fits-time}
+use Rattle.script_types.specs.inside.Values.{AllBefore, AreDrainsOf, AreGiven, Emits, EmitsAll, HasOperands}
+use Rattle.script_types.proofs.FitLemmas.{HasInput, both-left, both-right, fits-grid, fits-input-is, fits-name, fits-number-is, fits-stack, fits-stack-is, fits-time, not-true}
 use Rattle.script_types.proofs.InputForms.{input-form, input-form-kind}
 use Rattle.script_types.proofs.NodeLemmas.{CallFits, call-count, call-kind, call-meaning, call-sound}
-use Rattle.script_types.proofs.RowKinds.{both-are}
-use Rattle.script_types.proofs.SectionLemmas.{Adds, all-before-more, all-before-push, all-given-more, all-given-push, before-more, given-more, maps-with, operand-stays, own-before, own-given, own-kind, own-map, read-before, stands-less, step-with, values-add}
+use Rattle.script_types.proofs.SectionLemmas.{Adds, all-before-more, all-before-push, all-drains-push, all-given-more, all-given-push, before-more, drain-is, given-more, maps-with, operand-stays, own-before, own-drain, own-given, own-kind, own-map, read-before, stands-less, step-with, values-add}
 use Rattle.script_types.proofs.SoundLemmas.{kind-of, kinds-of-row, sound-number}
-use Rattle.script_types.proofs.ValueLemmas.{applied-is, four, kinds-four, values-push}
+use Rattle.script_types.proofs.ValueLemmas.{GoesAlong, along-drain, applied-is, four, kinds-are, values-push}
 
 -- ---- lists
 
@@ -60,10 +61,17 @@ in-push (x ∷ ms) m = let e = in-push ms m in omega (arith, e)
 
 -- ---- maps
 
--- each name keeps its map where more is done
+-- drain maps stay
+pub drains-stay : (s : Section) (d : Done) (added : List WholeMap) → (with_maps s d added).drains ≡ d.drains
+drains-stay Initial d added = refl
+drains-stay Dynamic d added = refl
+
+-- each name and each drain map of an input keeps its map where more is done
 pub holds-more : (s : Section) (g : Ground) (holder : Holder) (first : ℕ) (program : Program) (new : List Operation) (scene : Scene) (names : Environment) (d : Done) (added : List WholeMap) → Stands s g holder first new program → first ≤ length (maps_in s d) → HoldsMaps g holder scene names d → HoldsMaps g holder scene names (with_maps s d added)
-holds-more s g holder first program new scene names d added st hf h = λ name kind is.
-    h name kind is ∙ sym (operand-stays s scene d added (holder name) (before-more s first (length (maps_in s d)) (holder name) hf (read-before program s first (holder name) (st.around.held name kind is).given.read)))
+holds-more s g holder first program new scene names d added st hf h = record {
+  named = λ name kind is. h.named name kind is ∙ sym (operand-stays s scene d added (holder name) (before-more s first (length (maps_in s d)) (holder name) hf (read-before program s first (holder name) (st.around.held name kind is).given.read)));
+  drained = λ k is. h.drained k is ∙ ap (λ ds. nth ds (drain_number g.inputs k)) (sym (drains-stay s d added));
+}
 
 -- ---- forms
 
@@ -102,6 +110,10 @@ before-stack : (s : Section) (n k : ℕ) → NamesBefore s n (from.Stack k)
 before-stack Initial n k = tt
 before-stack Dynamic n k = tt
 
+pub before-drain : (s : Section) (n k : ℕ) → NamesBefore s n (from.Drain k)
+before-drain Initial n k = tt
+before-drain Dynamic n k = tt
+
 given-time : (s : Section) (program : Program) (n : ℕ) → is_dynamic s ≡ true → IsGiven program s n from.Time
 given-time Initial program n h = cc
 given-time Dynamic program n h = record { read = tt; used = refl }
@@ -114,50 +126,72 @@ given-stack : (s : Section) (program : Program) (n k : ℕ) → is_dynamic s ≡
 given-stack Initial program n k hd h = cc
 given-stack Dynamic program n k hd h = record { read = h; used = refl }
 
-module _ (s : Section) (g : Ground) (holder : Holder) (old : List Operation) (statement first : ℕ) (hf : first ≤ length old) where
+not-ldd : (kind : Kind) → not (is_kind Ldd kind) ≡ true → is_kind Ldd kind ≡ false
+not-ldd kind h = not-true (is_kind Ldd kind) h
+
+module _ (s : Section) (g : Ground) (holder : Holder) (numbers : List ℕ) (counted : numbers ≡ drain_numbers 0 g.inputs) (old : List Operation) (statement first : ℕ) (hf : first ≤ length old) where
   -- an operand alone, without operations
   leaf : (t : Tree) (x y : Operand) (m : TreeMeaning) → meaning_of t ≡ m → m.operations ≡ 0 → x ≡ y →
-      ((program : Program) → Stands s g holder first old program → operand_kind program y ≡ Some m.kind) →
+      ((program : Program) (st : Stands s g holder first old program) → operand_kind program y ≡ Some m.kind) →
+      ((program : Program) (st : Stands s g holder first old program) → IsDrainBelow st.around.drains m.kind y) →
       ((program : Program) → Stands s g holder first old program → NamesBefore s (length old) y) →
       ((scene : Scene) (names : Environment) (done : Done) → HoldsMaps g holder scene names done → m.value (record { scene = scene; names = names; statement = statement }) (length old - first) ≡ Ok (operand_map scene done y)) →
       (is_sound t ≡ true → (program : Program) → Stands s g holder first old program → IsGiven program s (length old) y) →
       Emits s g holder old old statement first t x
-  leaf t x y m hm none hx kind before value formed =
+  leaf t x y m hm none hx kind drain before value formed =
       let counted : operations_of t ≡ 0 = ap (λ (w : TreeMeaning). w.operations) hm ∙ none in
       subst (Emits s g holder old old statement first t) (sym hx) (record {
         added = [];
         appended = sym (append-nil old);
         count = sym counted;
         last = λ some. absurd (omega (arith, some, counted));
+        last_kind = λ some. absurd (omega (arith, some, counted));
         kind = λ program st. kind program st ∙ ap (λ (w : TreeMeaning). Some w.kind) (sym hm);
+        drain = λ program st. subst (λ k. IsDrainBelow st.around.drains k y) (ap (λ (w : TreeMeaning). w.kind) (sym hm)) (drain program st);
         before = before;
-        value = λ program scene step names done st n h. ap (λ (w : TreeMeaning). w.value (record { scene = scene; names = names; statement = statement }) (length old - first)) hm ∙ value scene names done h;
+        value = λ sound program scene step names done st n h. ap (λ (w : TreeMeaning). w.value (record { scene = scene; names = names; statement = statement }) (length old - first)) hm ∙ value scene names done h;
         formed = λ sound program st. (formed sound program st, tt);
       })
 
+  -- the grid of an input: a drain map, or another
+  emits-input : (b : Bool) (kind : Kind) (n : ℕ) (x : Operand) → is_kind Ldd kind ≡ b → x ≡ (if b then from.Drain (slice_index_or numbers n 0) else from.Input n) → is_input_of g.inputs Grid kind n ≡ true → HasInput g.inputs Grid kind n → Emits s g holder old old statement first (tree.Input kind n) x
+  emits-input true kind n x hb is f i =
+      let same : Ldd ≡ kind = same_kind Ldd kind hb in
+      let k : is_input_of g.inputs Grid Ldd n ≡ true = ap (λ j. is_input_of g.inputs Grid j n) same ∙ f in
+      leaf (tree.Input kind n) x (from.Drain (drain_number g.inputs n)) _ (meaning_of-Input kind n) refl (is ∙ ap (λ ns. from.Drain (slice_index_or ns n 0)) counted)
+      (λ program st. (st.around.drained n k).kind_is ∙ ap Some same)
+      (λ program st. (st.around.drained n k).drain)
+      (λ program st. before-drain s (length old) (drain_number g.inputs n))
+      (λ scene names done h. ap Ok (h.drained n k))
+      (λ sound program st. given-more program s first (length old) (from.Drain (drain_number g.inputs n)) hf (st.around.drained n k).given)
+  emits-input false kind n x hb is f i =
+      leaf (tree.Input kind n) x (from.Input n) _ (meaning_of-Input kind n) refl is
+      (λ program st. input-form-kind program g.inputs Grid kind n st.around.inputs i)
+      (λ program st. hb)
+      (λ program st. before-input s (length old) n)
+      (λ scene names done h. refl)
+      (λ sound program st. given-input s program (length old) n (input-form program g.inputs Grid kind n st.around.inputs i))
+
   -- an operand that there is
-  pub emits-leaf : (t : Tree) (x : Operand) → IsLeaf holder t x → fits g t ≡ true → Emits s g holder old old statement first t x
+  pub emits-leaf : (t : Tree) (x : Operand) → IsLeaf numbers holder t x → fits g t ≡ true → Emits s g holder old old statement first t x
   emits-leaf (tree.Number kind cell) x is f = leaf (tree.Number kind cell) x (from.Literal kind cell) _ (meaning_of-Number kind cell) refl is
       (λ program st. refl)
+      (λ program st. not-ldd kind (sym (fits-number-is g kind cell) ∙ f))
       (λ program st. before-literal s (length old) kind cell)
       (λ scene names done h. refl)
       (λ sound program st. given-number program s (length old) kind cell (sym (sound-number kind cell) ∙ sound))
   emits-leaf tree.Time x is f = leaf tree.Time x from.Time _ meaning_of-Time refl is
       (λ program st. refl)
+      (λ program st. refl)
       (λ program st. before-time s (length old))
       (λ scene names done h. refl)
       (λ sound program st. given-time s program (length old) (sym st.around.steps ∙ fits-time g tree.Time refl f))
-  emits-leaf (tree.Input kind n) x is f =
-      let i = fits-grid g (tree.Input kind n) kind n refl f in
-      leaf (tree.Input kind n) x (from.Input n) _ (meaning_of-Input kind n) refl is
-      (λ program st. input-form-kind program g.inputs Grid kind n st.around.inputs i)
-      (λ program st. before-input s (length old) n)
-      (λ scene names done h. refl)
-      (λ sound program st. given-input s program (length old) n (input-form program g.inputs Grid kind n st.around.inputs i))
+  emits-leaf (tree.Input kind n) x is f = emits-input (is_kind Ldd kind) kind n x refl is (sym (fits-input-is g kind n) ∙ f) (fits-grid g (tree.Input kind n) kind n refl f)
   emits-leaf (tree.Stack kind n) x is f =
       let i = fits-stack g (tree.Stack kind n) kind n refl f in
       leaf (tree.Stack kind n) x (from.Stack n) _ (meaning_of-Stack kind n) refl is
       (λ program st. input-form-kind program g.inputs Stack kind n st.around.inputs i.1)
+      (λ program st. not-ldd kind (both-right (g.in_steps && is_input_of g.inputs Stack kind n) (not (is_kind Ldd kind)) (sym (fits-stack-is g kind n) ∙ f)))
       (λ program st. before-stack s (length old) n)
       (λ scene names done h. refl)
       (λ sound program st. given-stack s program (length old) n (sym st.around.steps ∙ i.0) (input-form program g.inputs Stack kind n st.around.inputs i.1))
@@ -165,11 +199,13 @@ module _ (s : Section) (g : Ground) (holder : Holder) (old : List Operation) (st
       let k = fits-name g (tree.Name kind name) kind name refl f in
       leaf (tree.Name kind name) x (holder name) _ (meaning_of-Name kind name) refl is
       (λ program st. (st.around.held name kind k).kind_is)
+      (λ program st. (st.around.held name kind k).drain)
       (λ program st. before-more s first (length old) (holder name) hf (read-before program s first (holder name) (st.around.held name kind k).given.read))
-      (λ scene names done h. ap Ok (h name kind k))
+      (λ scene names done h. ap Ok (h.named name kind k))
       (λ sound program st. given-more program s first (length old) (holder name) hf (st.around.held name kind k).given)
   emits-leaf (tree.Call' kind op shape operands) x is f = absurd is
-  emits-leaf (tree.LookUp' kind op file shape operands) x is f = absurd is
+  emits-leaf (tree.CallWith' kind op file window shape operands) x is f = absurd is
+  emits-leaf (tree.Mask' shape operands) x is f = absurd is
 
 -- ---- operands
 
@@ -181,8 +217,9 @@ emits-none s g holder old statement first = record {
   count = refl;
   as_many = refl;
   kinds = λ program st. refl;
+  drains = λ program st. tt;
   before = λ program st. tt;
-  values = λ program scene step names done st n h. refl;
+  values = λ sound program scene step names done st n h. refl;
   formed = λ sound program st. (tt, tt);
 }
 
@@ -223,16 +260,18 @@ emits-push s g holder old mid new statement first ts xs t x hf a c =
       count = length-append a.added c.added ∙ ap (λ n. n + length c.added) la ∙ ap (λ n. count_in (map meaning_of ts) + n) c.count ∙ sym (in-push (map meaning_of ts) (meaning_of t)) ∙ ap count_in (sym ms);
       as_many = length-append xs (x ∷ []) ∙ ap (λ n. n + 1) a.as_many ∙ sym (length-append ts (t ∷ []));
       kinds = λ program st. map-append (operand_kind program) xs (x ∷ []) ∙ ap (λ ks. ks ++ operand_kind program x ∷ []) (a.kinds program (less program st)) ∙ ap (λ k. map Some (map (λ m. m.kind) (map meaning_of ts)) ++ k ∷ []) (c.kind program st) ∙ sym (map-append Some (map (λ m. m.kind) (map meaning_of ts)) ((meaning_of t).kind ∷ [])) ∙ ap (map Some) (sym (map-append (λ m. m.kind) (map meaning_of ts) (meaning_of t ∷ []))) ∙ ap (λ ms. map Some (map (λ m. m.kind) ms)) (sym ms);
+      drains = λ program st. subst (λ ks. AreDrainsOf st.around.drains ks (xs ++ x ∷ [])) (sym (map-append (λ (m : TreeMeaning). m.kind) (map meaning_of ts) (meaning_of t ∷ [])) ∙ ap (map (λ (m : TreeMeaning). m.kind)) (sym ms)) (all-drains-push st.around.drains (map (λ (m : TreeMeaning). m.kind) (map meaning_of ts)) xs (meaning_of t).kind x (a.as_many ∙ sym (length-map ts meaning_of) ∙ sym (length-map (map meaning_of ts) (λ (m : TreeMeaning). m.kind))) (a.drains program (less program st)) (c.drain program st));
       before = λ program st. all-before-push s (length new) xs x (all-before-more s (length mid) (length new) xs grown (a.before program (less program st))) (c.before program st);
-      values = λ program scene step names done st n h.
+      values = λ sound program scene step names done st n h.
+          let both = pass-both ts t sound in
           let site : Site = record { scene = scene; names = names; statement = statement } in
           let b = length old - first in
           let at-mid : length mid - first ≡ b + count_in (map meaning_of ts) = omega (arith, lm, la, hf) in
           let sp = span_in s program step in
           ap (λ xs. values_from_left xs site b) ms ∙ values-push (map meaning_of ts) (meaning_of t) site b
-          ∙ both-runs s program scene step done a.added c.added xs x (operation_values program scene sp done a.added) (values_from_left (map meaning_of ts) site b) ((meaning_of t).value site (b + count_in (map meaning_of ts))) refl (subst (λ k. AllBefore s k xs) (lm ∙ ap (λ k. k + length a.added) (sym n)) (a.before program (less program st))) (a.values program scene step names done (less program st) n h) (λ d is.
+          ∙ both-runs s program scene step done a.added c.added xs x (operation_values program scene sp done a.added) (values_from_left (map meaning_of ts) site b) ((meaning_of t).value site (b + count_in (map meaning_of ts))) refl (subst (λ k. AllBefore s k xs) (lm ∙ ap (λ k. k + length a.added) (sym n)) (a.before program (less program st))) (a.values both.0 program scene step names done (less program st) n h) (λ d is.
           let w = values-add s program scene step a.added done d is in
-          ap ((meaning_of t).value site) (sym at-mid) ∙ c.value program scene step names d st (done-count s done a.added d w ∙ ap (λ k. k + length a.added) n ∙ sym lm) (subst (HoldsMaps g holder scene names) (sym w.is) (holds-more s g holder first program new scene names done w.added st (omega (arith, hf, n)) h)))
+          ap ((meaning_of t).value site) (sym at-mid) ∙ c.value both.1 program scene step names d st (done-count s done a.added d w ∙ ap (λ k. k + length a.added) n ∙ sym lm) (subst (HoldsMaps g holder scene names) (sym w.is) (holds-more s g holder first program new scene names done w.added st (omega (arith, hf, n)) h)))
           ∙ ap (λ r. r >>= λ after. Ok (map (operand_map scene after) (xs ++ x ∷ []))) (sym (operation_values-append program scene sp done a.added c.added));
       formed = λ sound program st.
           let both = pass-both ts t sound in
@@ -243,6 +282,10 @@ emits-push s g holder old mid new statement first ts xs t x hf a c =
           );
     }
   where
+    both-are : (a b : Bool) → a ≡ true → b ≡ true → (a && b) ≡ true
+    both-are true b ha hb = hb
+    both-are false b ha hb = ha
+
     pass-both : (ts : List Tree) (t : Tree) → list_all is_sound (ts ++ t ∷ []) ≡ true → (list_all is_sound ts ≡ true) × (is_sound t ≡ true)
     pass-both [] t h = (refl, both-left (is_sound t) true h)
     pass-both (u ∷ ts) t h = let r = pass-both ts t (both-right (is_sound u) (list_all is_sound (ts ++ t ∷ [])) h) in (both-are (is_sound u) (list_all is_sound ts) (both-left (is_sound u) (list_all is_sound (ts ++ t ∷ [])) h) r.0, r.1)
@@ -265,13 +308,6 @@ last-run s program scene step begun ps o n (Ok d) vs xs own hr hn hv ho =
         ∙ ap (λ j. nth (maps_in s d ++ m ∷ []) j) (sym k)
         ∙ get_or-append_seam (maps_in s d) m [] []
         ))
-
-in-four : (o : Operation) (file : ℕ) (xs : List Operand) → HasOperands o file xs → operands_of o ≡ four xs
-in-four o file xs has = let a = has.a in let b = has.b in let c = has.c in let d = has.d in cc
-
--- the kinds of an operation's operands are those of the list
-kinds-are : (program : Program) (o : Operation) (file : ℕ) (xs : List Operand) (kinds : List Kind) → HasOperands o file xs → map (operand_kind program) xs ≡ map Some kinds → length xs ≤ 4 → kinds_of program o ≡ kinds
-kinds-are program o file xs kinds has h l = ap (filter_map (operand_kind program)) (in-four o file xs has) ∙ kinds-four (operand_kind program) xs kinds refl h l
 
 kinds-twice : (ts : List Tree) → map (λ (m : TreeMeaning). m.kind) (map meaning_of ts) ≡ map kind-of ts
 kinds-twice [] = refl
@@ -296,6 +332,7 @@ used-step (from.Stack i) more h = refl
 used-step (from.Initial i) more h = refl
 used-step (from.Now i) more h = refl
 used-step (from.Last d i) more h = refl
+used-step (from.Drain i) more h = refl
 
 -- behind those that are used none is
 used-four : (program : Program) (s : Section) (n : ℕ) (xs : List Operand) → AreGiven program s n xs → length xs ≤ 4 → are_used_first (four xs) ≡ true
@@ -306,53 +343,84 @@ used-four program s n (x ∷ y ∷ z ∷ []) a h = used-step x (y ∷ z ∷ from
 used-four program s n (x ∷ y ∷ z ∷ w ∷ []) a h = used-step x (y ∷ z ∷ w ∷ []) a.0.used ∙ used-step y (z ∷ w ∷ []) a.1.0.used ∙ used-step z (w ∷ []) a.1.1.0.used ∙ used-step w [] a.1.1.1.0.used
 used-four program s n (x ∷ y ∷ z ∷ w ∷ v ∷ xs) a h = absurd (omega (arith, h))
 
+-- the operands of an operation that goes along a drain map, and of another
+used-along : (program : Program) (s : Section) (n : ℕ) (t : Bool) (o : Operation) (xs : List Operand) → o.a ≡ slice_index_or xs (if t then 1 else 0) from.Unused → o.b ≡ slice_index_or xs ((if t then 1 else 0) + 1) from.Unused → o.c ≡ slice_index_or xs ((if t then 1 else 0) + 2) from.Unused → o.d ≡ slice_index_or xs ((if t then 1 else 0) + 3) from.Unused → AreGiven program s n xs → length xs ≤ 4 → are_used_first (operands_of o) ≡ true
+used-along program s n false o xs a b c d given h = ap are_used_first (in-places a b c d) ∙ used-four program s n xs given h
+  where
+    in-places : {x y z w : Operand} → o.a ≡ x → o.b ≡ y → o.c ≡ z → o.d ≡ w → operands_of o ≡ x ∷ y ∷ z ∷ w ∷ []
+    in-places p q r t = cc
+used-along program s n true o [] a b c d given h = ap are_used_first (in-places a b c d)
+  where
+    in-places : {x y z w : Operand} → o.a ≡ x → o.b ≡ y → o.c ≡ z → o.d ≡ w → operands_of o ≡ x ∷ y ∷ z ∷ w ∷ []
+    in-places p q r t = cc
+used-along program s n true o (x ∷ xs) a b c d given h = ap are_used_first (in-places a b c d) ∙ used-four program s n xs given.1 (omega (arith, h))
+  where
+    in-places : {x y z w : Operand} → o.a ≡ x → o.b ≡ y → o.c ≡ z → o.d ≡ w → operands_of o ≡ x ∷ y ∷ z ∷ w ∷ []
+    in-places p q r t = cc
+
+first-drain : (m : ℕ) (more : List Kind) (xs : List Operand) → length xs ≡ suc (length more) → AreDrainsOf m (Ldd ∷ more) xs → slice_index_or xs 0 from.Unused ≡ from.Drain (drain_in (slice_index_or xs 0 from.Unused))
+first-drain m more [] e a = absurd (omega (arith, e))
+first-drain m more (x ∷ xs) e a = (drain-is m x a.0).0
+
 -- an operation on operands that are computed
-pub emits-call : (s : Section) (g : Ground) (holder : Holder) (old mid : List Operation) (statement first : ℕ) (t : Tree) (kind : Kind) (op : Op) (file : ℕ) (args : List Tree) (xs : List Operand) (o : Operation) → IsCall t kind op file args → CallFits g kind op file args → first ≤ length old → o.op ≡ op → o.kind ≡ kind → o.statement ≡ statement → o.number ≡ length mid - first + 1 → HasOperands o file xs → EmitsAll s g holder old mid statement first args xs → Emits s g holder old (mid ++ o ∷ []) statement first t (own_operand s (length mid))
-emits-call s g holder old mid statement first t kind op file args xs o call fit hf ho hk hs hn has a =
+pub emits-call : (s : Section) (g : Ground) (holder : Holder) (old mid : List Operation) (statement first : ℕ) (t : Tree) (kind : Kind) (op : Op) (file window : ℕ) (args : List Tree) (xs : List Operand) (o : Operation) → IsCall t kind op file window args → CallFits g kind op file window args → first ≤ length old → o.op ≡ op → o.kind ≡ kind → o.statement ≡ statement → o.number ≡ length mid - first + 1 → HasOperands o file window xs → EmitsAll s g holder old mid statement first args xs → Emits s g holder old (mid ++ o ∷ []) statement first t (own_operand s (length mid))
+emits-call s g holder old mid statement first t kind op file window args xs o call fit hf ho hk hs hn has a =
     let la = a.count in
     let lm : length mid ≡ length old + length a.added = ap length a.appended ∙ length-append old a.added in
     let lo : length (mid ++ o ∷ []) ≡ length mid + 1 = length-append mid (o ∷ []) in
     let lx : length xs ≡ length args = a.as_many in
     let few : length xs ≤ 4 = (let f = fit.few in omega (arith, lx, f)) in
-    let counted = call-count t kind op file args call in
+    let counted = call-count t kind op file window args call in
     let kinds = map (λ (m : TreeMeaning). m.kind) (map meaning_of args) in
+    let many : length xs ≡ length kinds = a.as_many ∙ sym (length-map args meaning_of) ∙ sym (length-map (map meaning_of args) (λ (m : TreeMeaning). m.kind)) in
     let less : (program : Program) → Stands s g holder first (mid ++ o ∷ []) program → Stands s g holder first mid program = λ program st. stands-less s g holder first program mid (mid ++ o ∷ []) (o ∷ []) refl st in
-    let same : (program : Program) → Stands s g holder first (mid ++ o ∷ []) program → kinds_of program o ≡ kinds = λ program st. kinds-are program o file xs kinds has (a.kinds program (less program st)) few in
+    let has-kinds : is_sound t ≡ true → HasKinds (map_row (row_of o.op)) kinds kind = λ sound. subst (λ q. HasKinds (map_row (row_of q)) kinds kind) (sym ho) (subst (λ ks. HasKinds (map_row (row_of op)) ks kind) (sym (kinds-twice args)) (kinds-of-row (map_row (row_of op)) (map kind-of args) kind (call-sound t kind op file window args call sound).kinds)) in
+    let goes : is_sound t ≡ true → (program : Program) → Stands s g holder first (mid ++ o ∷ []) program → GoesAlong o xs = λ sound program st e.
+    let f = along-drain o.op kinds kind e (has-kinds sound) in
+    first-drain st.around.drains f.0 xs (many ∙ ap length f.1) (subst (λ ks. AreDrainsOf st.around.drains ks xs) f.1 (a.drains program (stands-less s g holder first program mid (mid ++ o ∷ []) (o ∷ []) refl st))) in
+    let same : is_sound t ≡ true → (program : Program) → Stands s g holder first (mid ++ o ∷ []) program → kinds_of program o ≡ kinds = λ sound program st. kinds-are (operand_kind program) o file window xs kinds has (goes sound program st) refl (a.kinds program (less program st)) few in
+    let own-kinds : operation_kind (mid ++ o ∷ []) (length mid) ≡ Some (meaning_of t).kind = ap (option_map (λ (p : Operation). p.kind)) (get-seam mid o []) ∙ ap Some (hk ∙ sym (call-kind t kind op file window args call)) in
     record {
       added = a.added ++ o ∷ [];
       appended = ap (λ ops. ops ++ o ∷ []) a.appended ∙ append_assoc old a.added (o ∷ []);
       count = length-append a.added (o ∷ []) ∙ ap (λ n. n + 1) la ∙ sym counted;
       last = λ some. let e : length mid ≡ length (mid ++ o ∷ []) - 1 = omega (arith, lo) in ap (own_operand s) e;
-      kind = λ program st. own-kind s program (length mid) ∙ ap (λ ops. operation_kind ops (length mid)) (st.begins.is ∙ append_assoc mid (o ∷ []) st.begins.more) ∙ ap (option_map (λ (p : Operation). p.kind)) (get-seam mid o st.begins.more) ∙ ap Some (hk ∙ sym (call-kind t kind op file args call));
+      last_kind = λ some. let e : length (mid ++ o ∷ []) - 1 ≡ length mid = omega (arith, lo) in ap (operation_kind (mid ++ o ∷ [])) e ∙ own-kinds;
+      kind = λ program st. own-kind s program (length mid) ∙ ap (λ ops. operation_kind ops (length mid)) (st.begins.is ∙ append_assoc mid (o ∷ []) st.begins.more) ∙ ap (option_map (λ (p : Operation). p.kind)) (get-seam mid o st.begins.more) ∙ ap Some (hk ∙ sym (call-kind t kind op file window args call));
+      drain = λ program st. own-drain s st.around.drains (length mid) (meaning_of t).kind (ap (is_kind Ldd) (call-kind t kind op file window args call) ∙ fit.plain);
       before = λ program st. own-before s (length mid) (length (mid ++ o ∷ [])) (omega (arith, lo));
-      value = λ program scene step names done st n h.
+      value = λ sound program scene step names done st n h.
           let site : Site = record { scene = scene; names = names; statement = statement } in
           let own : Site = record { scene = scene; names = names; statement = o.statement } in
           let b = length old - first in
           let sp = span_in s program step in
+          let cs = call-sound t kind op file window args call sound in
+          let told = setting_at scene file window kinds in
           let number : b + count_in (map meaning_of args) + 1 ≡ o.number = (let z : b + count_in (map meaning_of args) + 1 ≡ length mid - first + 1 = omega (arith, lm, la, hf) in z ∙ sym hn) in
-          ap (λ (m : TreeMeaning). m.value site b) (call-meaning t kind op file args call)
-          ∙ last-run s program scene step done a.added o (length mid) (operation_values program scene sp done a.added) (values_from_left (map meaning_of args) site b) xs (λ vs. applied_in site op (setting_at scene file kinds) vs (b + count_in (map meaning_of args) + 1)) refl (ap (λ j. j + length a.added) n ∙ sym lm) (a.values program scene step names done (less program st) n h) (λ d.
-          ap (applied_in site op (setting_at scene file kinds) (map (operand_map scene d) xs)) number
-          ∙ ap (λ q. applied_in site q (setting_at scene file kinds) (map (operand_map scene d) xs) o.number) (sym ho)
-          ∙ ap (λ (w : Site). applied_in w o.op (setting_at scene file kinds) (map (operand_map scene d) xs) o.number) (ap (λ k. site-of scene names k) (sym hs))
-          ∙ applied-is program scene names d o file kinds xs has (same program st))
+          ap (λ (m : TreeMeaning). m.value site b) (call-meaning t kind op file window args call)
+          ∙ last-run s program scene step done a.added o (length mid) (operation_values program scene sp done a.added) (values_from_left (map meaning_of args) site b) xs (λ vs. applied_in site op told vs (b + count_in (map meaning_of args) + 1)) refl (ap (λ j. j + length a.added) n ∙ sym lm) (a.values cs.operands program scene step names done (less program st) n h) (λ d.
+          ap (applied_in site op told (map (operand_map scene d) xs)) number
+          ∙ ap (λ q. applied_in site q told (map (operand_map scene d) xs) o.number) (sym ho)
+          ∙ ap (λ (w : Site). applied_in w o.op told (map (operand_map scene d) xs) o.number) (ap (λ k. site-of scene names k) (sym hs))
+          ∙ applied-is program scene names d o file window kinds xs has (goes sound program st) (same sound program st))
           ∙ ap (λ r. r >>= λ after. Ok (operand_map scene after (own_operand s (length mid)))) (sym (operation_values-append program scene sp done a.added (o ∷ [])));
       formed = λ sound program st.
-          let cs = call-sound t kind op file args call sound in
+          let cs = call-sound t kind op file window args call sound in
           let fa = a.formed cs.operands program (less program st) in
           let given = fa.0 in
-          let ks : kinds_of program o ≡ map kind-of args = same program st ∙ kinds-twice args in
+          let ks : kinds_of program o ≡ kinds = same sound program st in
           let m = length mid in
           let form : IsOperationOf program (MayRead program s m) o.kept o = record {
-            a = subst (MayRead program s m) (sym has.a) (read-at program s m xs 0 given);
-            b = subst (MayRead program s m) (sym has.b) (read-at program s m xs 1 given);
-            c = subst (MayRead program s m) (sym has.c) (read-at program s m xs 2 given);
-            d = subst (MayRead program s m) (sym has.d) (read-at program s m xs 3 given);
-            used = ap are_used_first (in-four o file xs has) ∙ used-four program s m xs given few;
-            kinds = subst (λ p. HasKinds (map_row (row_of p)) (kinds_of program o) o.kind) (sym ho) (subst (λ ks. HasKinds (map_row (row_of op)) ks o.kind) (sym ks) (subst (HasKinds (map_row (row_of op)) (map kind-of args)) (sym hk) (kinds-of-row (map_row (row_of op)) (map kind-of args) kind cs.kinds)));
+            a = subst (MayRead program s m) (sym has.a) (read-at program s m xs (first_place o.op) given);
+            b = subst (MayRead program s m) (sym has.b) (read-at program s m xs (first_place o.op + 1) given);
+            c = subst (MayRead program s m) (sym has.c) (read-at program s m xs (first_place o.op + 2) given);
+            d = subst (MayRead program s m) (sym has.d) (read-at program s m xs (first_place o.op + 3) given);
+            used = used-along program s m (goes_along_drains o.op) o xs has.a has.b has.c has.d given few;
+            kinds = subst (λ js. HasKinds (map_row (row_of o.op)) js o.kind) (sym ks) (subst (HasKinds (map_row (row_of o.op)) kinds) (sym hk) (has-kinds sound));
+            drain = λ e. subst (MayRead program s m) (goes sound program st e ∙ ap from.Drain (sym has.drain_is)) (read-at program s m xs 0 given);
+            window = λ e. ap is_window_length has.window_is ∙ fit.window_fits (ap is_focal (sym ho) ∙ e);
             file =
-                let count : length (kinds_of program o) ≡ length args = ap length ks ∙ length-map args kind-of in
+                let count : length (kinds_of program o) ≡ length args = ap length ks ∙ sym many ∙ lx in
                 let asked : file_role o.op (length (kinds_of program o)) ≡ file_role op (length args) = ap (λ p. file_role p (length (kinds_of program o))) ho ∙ ap (file_role op) count in
                 subst (λ r. IsFileOf program r o.kind o.file) (sym asked) (subst (λ k. IsFileOf program (file_role op (length args)) k o.file) (sym hk) (subst (IsFileOf program (file_role op (length args)) kind) (sym has.file_is) (fit.file_fits program st.around.inputs)));
             kept = refl;

@@ -1,24 +1,25 @@
 -- Whether an expression fits, one node at a time.
-use Rattle.std.proofs.Common.{◌≡◌, ◌≤◌, ◌&&◌, ◌==◌, ℕ, Bool, true, false, List, [], ◌∷◌, map, length, refl, sym, ap, ◌∙◌, arith}
+use Rattle.std.proofs.Common.{◌≡◌, ◌≤◌, ◌&&◌, ◌==◌, ℕ, Bool, true, false, not, List, [], ◌∷◌, map, length, refl, sym, ap, ◌∙◌, arith}
 use Rattle.std.specs.Prelude.{Option, None, Some, nat_le, slice_get, option_map}
 use Rattle.std.specs.List.{list_all}
 use Rattle.std.specs.Option.{is_none}
 use Rattle.std.proofs.lemmas.List.{length-map}
 use Rattle.cell_values.specs.declared.cell.Cell.{Cell}
 use Rattle.cell_values.specs.declared.kind.Kind.{Kind}
+use Rattle.cell_values.specs.declared.kind.Kind.TheVariants.{Ldd}
 use Rattle.map_meaning.specs.declared.op.Op.{Op}
 use Rattle.map_meaning.specs.declared.program.InputUse.{InputUse}
 use Rattle.map_meaning.specs.declared.program.Role.{Role}
 use Rattle.map_meaning.specs.declared.program.Role.TheVariants.{Grid, Stack, Table, Series}
 use Rattle.map_meaning.specs.declared.tree.Tree.{Tree}
 use Rattle.map_meaning.specs.declared.tree.Tree.TheVariants as tree
-use Rattle.map_meaning.specs.declared.tree.Tree.TheVariants.{rolls-Call, rolls-Input, rolls-LookUp, rolls-Name, rolls-Number, rolls-Stack, rolls-Time}
+use Rattle.map_meaning.specs.declared.tree.Tree.TheVariants.{rolls-Call, rolls-CallWith, rolls-Input, rolls-Mask, rolls-Name, rolls-Number, rolls-Stack, rolls-Time}
 use Rattle.map_meaning.specs.declared.tree.Tree.TheFolds.{fold-roll-Tree}
 use Rattle.map_meaning.specs.declared.tree.Tree.TheOpen.{Tree-F}
 use Rattle.map_meaning.specs.Programs.{file_role, is_id_kind}
-use Rattle.map_meaning.specs.Table.{is_kind}
+use Rattle.map_meaning.specs.Table.{is_focal, is_kind}
 use Rattle.map_meaning.proofs.Callers.{same_kind}
-use Rattle.script_types.specs.inside.Fits.{Ground, fits, fits_level, is_file_of, is_ids, is_ids_as, is_input_as, is_input_of, is_of, is_role}
+use Rattle.script_types.specs.inside.Fits.{Ground, fits, fits_level, is_file_of, is_ids, is_ids_as, is_input_as, is_input_of, is_of, is_role, is_told}
 
 -- a test of mapped elements
 pub all-mapped : {A : Type 0} (f : A → Bool) (xs : List A) → list_all (λ b. b) (map f xs) ≡ list_all f xs
@@ -98,8 +99,8 @@ has-ids inputs n h = by-input (slice_get inputs n) refl h
 
 -- ---- whether a node fits
 
--- a number does
-pub fits-number-is : (g : Ground) (k : Kind) (c : Cell) → fits g (tree.Number k c) ≡ true
+-- a number does, unless it is to be a drain map
+pub fits-number-is : (g : Ground) (k : Kind) (c : Cell) → fits g (tree.Number k c) ≡ not (is_kind Ldd k)
 unfolding fits
 fits-number-is g k c = ap (fits g) (sym (rolls-Number k c)) ∙ fold-roll-Tree Bool (fits_level g) (Tree-F.Number k c)
 
@@ -112,7 +113,7 @@ pub fits-input-is : (g : Ground) (k : Kind) (n : ℕ) → fits g (tree.Input k n
 unfolding fits
 fits-input-is g k n = ap (fits g) (sym (rolls-Input k n)) ∙ fold-roll-Tree Bool (fits_level g) (Tree-F.Input k n)
 
-pub fits-stack-is : (g : Ground) (k : Kind) (n : ℕ) → fits g (tree.Stack k n) ≡ (g.in_steps && is_input_of g.inputs Stack k n)
+pub fits-stack-is : (g : Ground) (k : Kind) (n : ℕ) → fits g (tree.Stack k n) ≡ (g.in_steps && is_input_of g.inputs Stack k n && not (is_kind Ldd k))
 unfolding fits
 fits-stack-is g k n = ap (fits g) (sym (rolls-Stack k n)) ∙ fold-roll-Tree Bool (fits_level g) (Tree-F.Stack k n)
 
@@ -120,13 +121,20 @@ pub fits-name-is : (g : Ground) (k : Kind) (name : List ℕ) → fits g (tree.Na
 unfolding fits
 fits-name-is g k name = ap (fits g) (sym (rolls-Name k name)) ∙ fold-roll-Tree Bool (fits_level g) (Tree-F.Name k name)
 
-pub fits-call : (g : Ground) (k : Kind) (o : Op) (args : List Tree) → fits g (tree.Call k o args) ≡ (list_all (fits g) args && (nat_le (length args) 4 && is_none (file_role o (length args))))
+-- a mask of a drain map is no part of an expression
+pub fits-mask-is : (g : Ground) (args : List Tree) → fits g (tree.Mask args) ≡ false
 unfolding fits
-fits-call g k o args = ap (fits g) (sym (rolls-Call k o args)) ∙ fold-roll-Tree Bool (fits_level g) (Tree-F.Call k o args) ∙ ap (λ n. list_all (λ b. b) (map (fits g) args) && (nat_le n 4 && is_none (file_role o n))) (length-map args (fits g)) ∙ ap (λ b. b && (nat_le (length args) 4 && is_none (file_role o (length args)))) (all-mapped (fits g) args)
+fits-mask-is g args = ap (fits g) (sym (rolls-Mask args)) ∙ fold-roll-Tree Bool (fits_level g) (Tree-F.Mask args)
 
-pub fits-look-up : (g : Ground) (k : Kind) (o : Op) (file : ℕ) (args : List Tree) → fits g (tree.LookUp k o file args) ≡ (list_all (fits g) args && (nat_le (length args) 4 && is_file_of g.inputs (file_role o (length args)) k file))
+-- an operation that is told its operands alone looks nothing up and at no window
+pub fits-call : (g : Ground) (k : Kind) (o : Op) (args : List Tree) → fits g (tree.Call k o args) ≡ (list_all (fits g) args && (nat_le (length args) 4 && is_none (file_role o (length args))) && not (is_focal o) && not (is_kind Ldd k))
 unfolding fits
-fits-look-up g k o file args = ap (fits g) (sym (rolls-LookUp k o file args)) ∙ fold-roll-Tree Bool (fits_level g) (Tree-F.LookUp k o file args) ∙ ap (λ n. list_all (λ b. b) (map (fits g) args) && (nat_le n 4 && is_file_of g.inputs (file_role o n) k file)) (length-map args (fits g)) ∙ ap (λ b. b && (nat_le (length args) 4 && is_file_of g.inputs (file_role o (length args)) k file)) (all-mapped (fits g) args)
+fits-call g k o args = ap (fits g) (sym (rolls-Call k o args)) ∙ fold-roll-Tree Bool (fits_level g) (Tree-F.Call k o args) ∙ ap (λ n. list_all (λ b. b) (map (fits g) args) && (nat_le n 4 && is_none (file_role o n)) && not (is_focal o) && not (is_kind Ldd k)) (length-map args (fits g)) ∙ ap (λ b. b && (nat_le (length args) 4 && is_none (file_role o (length args))) && not (is_focal o) && not (is_kind Ldd k)) (all-mapped (fits g) args)
+
+-- an operation that is told more has what it needs
+pub fits-call-with : (g : Ground) (k : Kind) (o : Op) (file window : ℕ) (args : List Tree) → fits g (tree.CallWith k o file window args) ≡ (list_all (fits g) args && (nat_le (length args) 4 && is_told g.inputs o (length args) k file window) && not (is_kind Ldd k))
+unfolding fits
+fits-call-with g k o file window args = ap (fits g) (sym (rolls-CallWith k o file window args)) ∙ fold-roll-Tree Bool (fits_level g) (Tree-F.CallWith k o file window args) ∙ ap (λ n. list_all (λ b. b) (map (fits g) args) && (nat_le n 4 && is_told g.inputs o n k file window) && not (is_kind Ldd k)) (length-map args (fits g)) ∙ ap (λ b. b && (nat_le (length args) 4 && is_told g.inputs o (length args) k file window) && not (is_kind Ldd k)) (all-mapped (fits g) args)
 
 -- ---- what a node that fits has
 
@@ -137,31 +145,54 @@ none-is : {A : Type 0} (o : Option A) → is_none o ≡ true → o ≡ None
 none-is None h = refl
 none-is (Some x) h = cc
 
-call-parts : (g : Ground) (t : Tree) (k : Kind) (o : Op) (args : List Tree) → t ≡ tree.Call k o args → fits g t ≡ true → (list_all (fits g) args && (nat_le (length args) 4 && is_none (file_role o (length args)))) ≡ true
-call-parts g t k o args ht h = sym (ap (fits g) ht ∙ fits-call g k o args) ∙ h
+pub not-true : (b : Bool) → not b ≡ true → b ≡ false
+not-true false h = refl
+not-true true h = cc
 
-look-up-parts : (g : Ground) (t : Tree) (k : Kind) (o : Op) (file : ℕ) (args : List Tree) → t ≡ tree.LookUp k o file args → fits g t ≡ true → (list_all (fits g) args && (nat_le (length args) 4 && is_file_of g.inputs (file_role o (length args)) k file)) ≡ true
-look-up-parts g t k o file args ht h = sym (ap (fits g) ht ∙ fits-look-up g k o file args) ∙ h
+-- what an operation has that fits and is told its operands alone
+pub record CallIsFit (g : Ground) (k : Kind) (o : Op) (args : List Tree) : Type 0 where
+  pub operands : list_all (fits g) args ≡ true
+  pub few : length args ≤ 4
+  pub no_file : file_role o (length args) ≡ None
+  pub no_window : is_focal o ≡ false
+  pub plain : is_kind Ldd k ≡ false
 
--- the operands of a call that fits do
-pub fits-operands : (g : Ground) (t : Tree) (k : Kind) (o : Op) (args : List Tree) → t ≡ tree.Call k o args → fits g t ≡ true → list_all (fits g) args ≡ true
-fits-operands g t k o args ht h = both-left (list_all (fits g) args) (nat_le (length args) 4 && is_none (file_role o (length args))) (call-parts g t k o args ht h)
+pub call-is-fit : (g : Ground) (t : Tree) (k : Kind) (o : Op) (args : List Tree) → t ≡ tree.Call k o args → fits g t ≡ true → CallIsFit g k o args
+call-is-fit g t k o args ht h =
+    let counts = nat_le (length args) 4 && is_none (file_role o (length args)) in
+    let all = list_all (fits g) args in
+    let p = sym (ap (fits g) ht ∙ fits-call g k o args) ∙ h in
+    let q = both-left (all && counts && not (is_focal o)) (not (is_kind Ldd k)) p in
+    let r = both-left (all && counts) (not (is_focal o)) q in
+    let c = both-right all counts r in
+    record {
+      operands = both-left all counts r;
+      few = at-most (length args) (both-left (nat_le (length args) 4) (is_none (file_role o (length args))) c);
+      no_file = none-is (file_role o (length args)) (both-right (nat_le (length args) 4) (is_none (file_role o (length args))) c);
+      no_window = not-true (is_focal o) (both-right (all && counts) (not (is_focal o)) q);
+      plain = not-true (is_kind Ldd k) (both-right (all && counts && not (is_focal o)) (not (is_kind Ldd k)) p);
+    }
 
--- a call that fits has at most four operands
-pub fits-few : (g : Ground) (t : Tree) (k : Kind) (o : Op) (args : List Tree) → t ≡ tree.Call k o args → fits g t ≡ true → length args ≤ 4
-fits-few g t k o args ht h = at-most (length args) (both-left (nat_le (length args) 4) (is_none (file_role o (length args))) (both-right (list_all (fits g) args) (nat_le (length args) 4 && is_none (file_role o (length args))) (call-parts g t k o args ht h)))
+-- what an operation has that fits and is told more
+pub record ToldIsFit (g : Ground) (k : Kind) (o : Op) (file window : ℕ) (args : List Tree) : Type 0 where
+  pub operands : list_all (fits g) args ≡ true
+  pub few : length args ≤ 4
+  pub told : is_told g.inputs o (length args) k file window ≡ true
+  pub plain : is_kind Ldd k ≡ false
 
--- and looks nothing up
-pub fits-no-file : (g : Ground) (t : Tree) (k : Kind) (o : Op) (args : List Tree) → t ≡ tree.Call k o args → fits g t ≡ true → file_role o (length args) ≡ None
-fits-no-file g t k o args ht h = none-is (file_role o (length args)) (both-right (nat_le (length args) 4) (is_none (file_role o (length args))) (both-right (list_all (fits g) args) (nat_le (length args) 4 && is_none (file_role o (length args))) (call-parts g t k o args ht h)))
-
--- the operands of a look-up that fits do
-pub fits-keys : (g : Ground) (t : Tree) (k : Kind) (o : Op) (file : ℕ) (args : List Tree) → t ≡ tree.LookUp k o file args → fits g t ≡ true → list_all (fits g) args ≡ true
-fits-keys g t k o file args ht h = both-left (list_all (fits g) args) (nat_le (length args) 4 && is_file_of g.inputs (file_role o (length args)) k file) (look-up-parts g t k o file args ht h)
-
--- a look-up that fits has at most four operands
-pub fits-few-keys : (g : Ground) (t : Tree) (k : Kind) (o : Op) (file : ℕ) (args : List Tree) → t ≡ tree.LookUp k o file args → fits g t ≡ true → length args ≤ 4
-fits-few-keys g t k o file args ht h = at-most (length args) (both-left (nat_le (length args) 4) (is_file_of g.inputs (file_role o (length args)) k file) (both-right (list_all (fits g) args) (nat_le (length args) 4 && is_file_of g.inputs (file_role o (length args)) k file) (look-up-parts g t k o file args ht h)))
+pub told-is-fit : (g : Ground) (t : Tree) (k : Kind) (o : Op) (file window : ℕ) (args : List Tree) → t ≡ tree.CallWith k o file window args → fits g t ≡ true → ToldIsFit g k o file window args
+told-is-fit g t k o file window args ht h =
+    let told = is_told g.inputs o (length args) k file window in
+    let all = list_all (fits g) args in
+    let p = sym (ap (fits g) ht ∙ fits-call-with g k o file window args) ∙ h in
+    let q = both-left (all && (nat_le (length args) 4 && told)) (not (is_kind Ldd k)) p in
+    let c = both-right all (nat_le (length args) 4 && told) q in
+    record {
+      operands = both-left all (nat_le (length args) 4 && told) q;
+      few = at-most (length args) (both-left (nat_le (length args) 4) told c);
+      told = both-right (nat_le (length args) 4) told c;
+      plain = not-true (is_kind Ldd k) (both-right (all && (nat_le (length args) 4 && told)) (not (is_kind Ldd k)) p);
+    }
 
 -- the table or the series of an operation that looks its results up
 pub record HasFile (inputs : List InputUse) (asked : Option Role) (kind : Kind) (n : ℕ) : Type 0 where
@@ -169,13 +200,9 @@ pub record HasFile (inputs : List InputUse) (asked : Option Role) (kind : Kind) 
   pub asked_is : asked ≡ Some role
   pub input : HasInput inputs role kind n
 
-has-file : (inputs : List InputUse) (asked : Option Role) (kind : Kind) (n : ℕ) → is_file_of inputs asked kind n ≡ true → HasFile inputs asked kind n
+pub has-file : (inputs : List InputUse) (asked : Option Role) (kind : Kind) (n : ℕ) → is_file_of inputs asked kind n ≡ true → HasFile inputs asked kind n
 has-file inputs None kind n h = cc
 has-file inputs (Some role) kind n h = record { role = role; asked_is = refl; input = has-input inputs role kind n h }
-
--- a look-up that fits has its table or series
-pub fits-file : (g : Ground) (t : Tree) (k : Kind) (o : Op) (file : ℕ) (args : List Tree) → t ≡ tree.LookUp k o file args → fits g t ≡ true → HasFile g.inputs (file_role o (length args)) k file
-fits-file g t k o file args ht h = has-file g.inputs (file_role o (length args)) k file (both-right (nat_le (length args) 4) (is_file_of g.inputs (file_role o (length args)) k file) (both-right (list_all (fits g) args) (nat_le (length args) 4 && is_file_of g.inputs (file_role o (length args)) k file) (look-up-parts g t k o file args ht h)))
 
 of-kind : (o : Option Kind) (k : Kind) → is_of o k ≡ true → o ≡ Some k
 of-kind None k h = cc
@@ -196,7 +223,7 @@ fits-time g t ht h = sym (ap (fits g) ht ∙ fits-time-is g) ∙ h
 -- a stack that fits stands in `dynamic`, and is a stack of its kind
 pub fits-stack : (g : Ground) (t : Tree) (k : Kind) (n : ℕ) → t ≡ tree.Stack k n → fits g t ≡ true → (g.in_steps ≡ true) × HasInput g.inputs Stack k n
 fits-stack g t k n ht h =
-    let p = sym (ap (fits g) ht ∙ fits-stack-is g k n) ∙ h in
+    let p = both-left (g.in_steps && is_input_of g.inputs Stack k n) (not (is_kind Ldd k)) (sym (ap (fits g) ht ∙ fits-stack-is g k n) ∙ h) in
     (both-left g.in_steps (is_input_of g.inputs Stack k n) p, has-input g.inputs Stack k n (both-right g.in_steps (is_input_of g.inputs Stack k n) p))
 
 -- a name that fits has its kind

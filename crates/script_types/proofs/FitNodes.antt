@@ -2,6 +2,7 @@
 use Rattle.std.proofs.Common.{◌≡◌, ℕ, Bool, true, false, not, ◌&&◌, ◌==◌, ℤ, int_le, ◌≤ℤ◌, List, [], ◌∷◌, refl, sym, ap, subst, ◌∙◌, Result, Ok, Err, if◌then◌else◌, arith}
 use Rattle.std.specs.Prelude.{⊤, Option, None, Some, slice_get}
 use Rattle.std.specs.Option.{unwrap_or}
+use Rattle.std.specs.Result.{is_err}
 use Rattle.std.proofs.lemmas.Int.{ints}
 use Rattle.text_base.specs.Results.{◌>>=◌}
 use Rattle.cell_values.specs.declared.cell.Cell.{Cell}
@@ -32,13 +33,14 @@ use Rattle.script_types.specs.declared.typed.UsedAs.TheVariants as used
 use Rattle.script_types.specs.declared.typed.Value.{Value}
 use Rattle.script_types.specs.Checks.{passed}
 use Rattle.script_types.specs.Lowered.{input_as_used, used_kind, input_role}
+use Rattle.script_types.specs.Meaning.{is_bad_number}
 use Rattle.script_types.specs.Names.{is_bad_prefix, is_same_use, is_stack}
 use Rattle.script_types.specs.Statements.{is_dynamic}
 use Rattle.script_types.specs.Typing.{Scope, assigned_read, bound_read, cell_value, constant_read, input_as, input_checks, is_its_role, name_read, number_as, target_read}
-use Rattle.script_types.specs.Unbuilt.{is_drain_kind}
 use Rattle.script_types.specs.inside.Fits.{Ground, fits, is_ids, is_input_as, is_input_of, is_of, is_role}
 use Rattle.script_types.specs.inside.Sound.{is_cell, is_sound}
 use Rattle.script_types.proofs.FitLemmas.{both-left, both-right, fits-input-is, fits-name-is, fits-number-is}
+use Rattle.script_types.proofs.FoundRows.{neither-left}
 use Rattle.script_types.proofs.RowKinds.{both-are, kind-itself}
 use Rattle.script_types.proofs.SoundLemmas.{sound-input, sound-name, sound-number}
 
@@ -78,10 +80,6 @@ pub not-not : (b : Bool) → not b ≡ false → b ≡ true
 not-not true h = refl
 not-not false h = cc
 
-pub not-true : (b : Bool) → not b ≡ true → b ≡ false
-not-true false h = refl
-not-true true h = cc
-
 abbrev told : {A : Type 0} → A → Result A MeaningKind
 told x = Ok x
 
@@ -91,29 +89,27 @@ ok-one k = cc
 
 -- ---- what is good
 
--- the expression fits, has this kind, is no drain map, and keeps to the table
+-- the expression fits, has this kind, and keeps to the table
 pub record IsGood (g : Ground) (t : Tree) (kind : Kind) : Type 0 where
   pub value : fits g t ≡ true
   pub of_kind : (meaning_of t).kind ≡ kind
-  pub plain : is_kind Ldd kind ≡ false
   pub sound : is_sound t ≡ true
 
 -- What an expression is in a role fits, where it is a map or is sampled; and a table, a series or a stack is an input of its
--- role and kind.
+-- role and kind. What is sampled and a stack are no drain maps.
 abbrev pub IsGoodTyped : Ground → UsedAs → Typed → Type 0
 IsGoodTyped g role (typed.Map v) = IsGood g v.tree v.kind
 IsGoodTyped g role (typed.Table kind n) = (keys : ℕ) × (role ≡ used.Table keys kind) × (is_input_of g.inputs (Table keys) kind n ≡ true)
 IsGoodTyped g role (typed.Series kind n) = (role ≡ used.Series kind) × (is_input_of g.inputs Series kind n ≡ true)
 IsGoodTyped g role (typed.Stack kind n) = (is_kind Ldd kind ≡ false) × (is_input_of g.inputs Stack kind n ≡ true)
-IsGoodTyped g role (typed.Sample ids v) = IsGood g v.tree v.kind × (is_ids g.inputs ids ≡ true) × (g.in_steps ≡ true)
+IsGoodTyped g role (typed.Sample ids v) = IsGood g v.tree v.kind × (is_ids g.inputs ids ≡ true) × (g.in_steps ≡ true) × (is_kind Ldd v.kind ≡ false)
 IsGoodTyped g role (typed.Literal text) = ⊤
 IsGoodTyped g role (typed.Constant text) = ⊤
 
--- What names are where an expression stands: no drain maps, and bound files that are used are inputs in the role of their
--- first use.
+-- What names are where an expression stands: no number is at fault, and bound files that are used are inputs in the role of
+-- their first use.
 pub record IsGoodScope (s : Scope) (inputs : List InputUse) : Type 0 where
-  pub above : (name : List ℕ) (k : Kind) → s.above name ≡ Some k → is_kind Ldd k ≡ false
-  pub bound : (name : List ℕ) (b : Binding) → s.binding name ≡ Some b → is_drain_kind b.kind ≡ false
+  pub number : (name : List ℕ) (b : Binding) → s.binding name ≡ Some b → is_bad_number b.target b.kind ≡ false
   pub input : (name : List ℕ) (b : Binding) (file : List ℕ) (role : UsedAs) → s.binding name ≡ Some b → b.target ≡ target.File file → s.is_assigned name ≡ false → s.role name ≡ Some role →
       (n : ℕ) × (s.input name ≡ Some n) × (slice_get inputs n ≡ Some (input_as_used role b))
 
@@ -176,7 +172,7 @@ cell-in kind text (Val z) h = let v = (value-from_cell kind text z h).2.value in
 
 number-cell : (g : Ground) (kind : Kind) (text : List ℕ) (r : Result Cell NumberFault) (v : Value) → cell_read kind text ≡ r → is_kind Ldd kind ≡ false → cell_value kind r ≡ Ok v → IsGood g v.tree v.kind × (kind ≡ v.kind)
 number-cell g kind text (Ok cell) v hr hk h = let e : record { kind = kind; tree = tree.Number kind cell } ≡ v = cc in
-    subst (λ (w : Value). IsGood g w.tree w.kind × (kind ≡ w.kind)) e (record { value = fits-number-is g kind cell; of_kind = ap (λ m. m.kind) (meaning_of-Number kind cell); plain = hk; sound = sound-number kind cell ∙ cell-in kind text cell hr }, refl)
+    subst (λ (w : Value). IsGood g w.tree w.kind × (kind ≡ w.kind)) e (record { value = fits-number-is g kind cell ∙ ap not hk; of_kind = ap (λ m. m.kind) (meaning_of-Number kind cell); sound = sound-number kind cell ∙ cell-in kind text cell hr }, refl)
 number-cell g kind text (Err f) v hr hk h = cc
 
 -- a number of a kind
@@ -188,30 +184,38 @@ assigned-good s inputs role name t sampled None hs hd ho h = cc
 assigned-good s inputs role name t true (Some k) hs hd ho h = cc
 assigned-good s inputs role name t false (Some k) hs hd ho h = let e : typed.Map (record { kind = k; tree = tree.Name k name }) ≡ t = cc in
     let there = ap (λ b. if b then None else s.above name) hd ∙ ho in
-    subst (IsGoodTyped (ground-of s inputs) role) e (record { value = fits-name-is (ground-of s inputs) k name ∙ ap (λ x. is_of x k) there ∙ kind-itself k; of_kind = ap (λ m. m.kind) (meaning_of-Name k name); plain = hs.above name k ho; sound = sound-name k name })
+    subst (IsGoodTyped (ground-of s inputs) role) e (record { value = fits-name-is (ground-of s inputs) k name ∙ ap (λ x. is_of x k) there ∙ kind-itself k; of_kind = ap (λ m. m.kind) (meaning_of-Name k name); sound = sound-name k name })
 
-input-good : (g : Ground) (role : UsedAs) (given : Option Kind) (n : ℕ) → is_kind Ldd (unwrap_or given Scalar) ≡ false → is_input_of g.inputs (input_role role) (used_kind role given) n ≡ true → IsGoodTyped g role (input_as role (unwrap_or given Scalar) n)
-input-good g used.Grid given n hk h = let kind = unwrap_or given Scalar in record { value = fits-input-is g kind n ∙ h; of_kind = ap (λ m. m.kind) (meaning_of-Input kind n); plain = hk; sound = sound-input kind n }
+input-good : (g : Ground) (role : UsedAs) (given : Option Kind) (n : ℕ) → (is_stack role && is_kind Ldd (unwrap_or given Scalar)) ≡ false → is_input_of g.inputs (input_role role) (used_kind role given) n ≡ true → IsGoodTyped g role (input_as role (unwrap_or given Scalar) n)
+input-good g used.Grid given n hk h = let kind = unwrap_or given Scalar in record { value = fits-input-is g kind n ∙ h; of_kind = ap (λ m. m.kind) (meaning_of-Input kind n); sound = sound-input kind n }
 input-good g used.Stack given n hk h = (hk, h)
 input-good g (used.Table keys of) given n hk h = (keys, refl, h)
 input-good g (used.Series of) given n hk h = (refl, h)
 
-pub some-kind : (o : Option Kind) → is_drain_kind o ≡ false → is_kind Ldd (unwrap_or o Scalar) ≡ false
-some-kind None h = refl
-some-kind (Some k) h = h
-
-constant-good : (g : Ground) (role : UsedAs) (o : Option Kind) (text : List ℕ) (t : Typed) → is_drain_kind o ≡ false → constant_read o text ≡ Ok t → IsGoodTyped g role t
+constant-good : (g : Ground) (role : UsedAs) (o : Option Kind) (text : List ℕ) (t : Typed) → is_bad_number (target.Number text) o ≡ false → constant_read o text ≡ Ok t → IsGoodTyped g role t
 constant-good g role None text t hk h = let e : typed.Constant text ≡ t = cc in subst (IsGoodTyped g role) e tt
-constant-good g role (Some kind) text t hk h = let b = value-before (number_as kind text) (λ v. Ok (typed.Map v)) t h in let e : typed.Map b.0 ≡ t = ok-one b.2 in subst (IsGoodTyped g role) e (number-good g kind text b.0 hk b.1).0
+constant-good g role (Some kind) text t hk h = let b = value-before (number_as kind text) (λ v. Ok (typed.Map v)) t h in let e : typed.Map b.0 ≡ t = ok-one b.2 in subst (IsGoodTyped g role) e (number-good g kind text b.0 (neither-left (is_kind Ldd kind) (is_err (cell_read kind text)) hk) b.1).0
+
+-- what the tests at the name of an input leave: its role, and that it is no stack of drain maps
+pub record PassesAs (s : Scope) (role : UsedAs) (name : List ℕ) (kind : Kind) : Type 0 where
+  pub its : is_its_role (s.role name) role ≡ true
+  pub plain : (is_stack role && is_kind Ldd kind) ≡ false
+
+passes-as : (s : Scope) (role : UsedAs) (name file : List ℕ) (kind : Kind) (x y : Typed) → passed (input_checks s role name file kind) x ≡ Ok y → PassesAs s role name kind
+passes-as s role name file kind x y h =
+    let c0 : MeaningKind × Bool = (NameClash, not (is_its_role (s.role name) role)) in
+    let c1 : MeaningKind × Bool = (DrainPlace, is_stack role && is_kind Ldd kind) in
+    let c2 : MeaningKind × Bool = (BadStackName, is_stack role && is_bad_prefix file s.steps) in
+    record { its = not-not (is_its_role (s.role name) role) (passed-test c0 (c1 ∷ c2 ∷ []) x y h); plain = passed-test c1 (c2 ∷ []) x y (passed-rest c0 (c1 ∷ c2 ∷ []) x y h) }
 
 target-good : (s : Scope) (inputs : List InputUse) (role : UsedAs) (name : List ℕ) (t : Typed) (b : Binding) (to : Target) → IsGoodScope s inputs → s.is_assigned name ≡ false → s.binding name ≡ Some b → b.target ≡ to → target_read s role name b.kind to ≡ Ok t → IsGoodTyped (ground-of s inputs) role t
-target-good s inputs role name t b (target.Number text) hs ha hb ht h = constant-good (ground-of s inputs) role b.kind text t (hs.bound name b hb) h
+target-good s inputs role name t b (target.Number text) hs ha hb ht h = constant-good (ground-of s inputs) role b.kind text t (ap (λ to. is_bad_number to b.kind) (sym ht) ∙ hs.number name b hb) h
 target-good s inputs role name t b (target.File file) hs ha hb ht h =
     let kind = unwrap_or b.kind Scalar in
-    let its = in-role (s.role name) role (not-not (is_its_role (s.role name) role) (passed-test (NameClash, not (is_its_role (s.role name) role)) ((DrainPlace, is_stack role && is_kind Ldd kind) ∷ (BadStackName, is_stack role && is_bad_prefix file s.steps) ∷ []) (input_as role kind (unwrap_or (s.input name) 0)) t h)) in
-    let i = hs.input name b file role hb ht ha its in
+    let passes = passes-as s role name file kind (input_as role kind (unwrap_or (s.input name) 0)) t h in
+    let i = hs.input name b file role hb ht ha (in-role (s.role name) role passes.its) in
     let e = ap (λ n. input_as role kind (unwrap_or n 0)) (sym i.1) ∙ passed-is (input_checks s role name file kind) (input_as role kind (unwrap_or (s.input name) 0)) t h in
-    subst (IsGoodTyped (ground-of s inputs) role) e (input-good (ground-of s inputs) role b.kind i.0 (some-kind b.kind (hs.bound name b hb)) (input-passes inputs role b i.0 i.2))
+    subst (IsGoodTyped (ground-of s inputs) role) e (input-good (ground-of s inputs) role b.kind i.0 passes.plain (input-passes inputs role b i.0 i.2))
 
 name-good-by : (s : Scope) (inputs : List InputUse) (role : UsedAs) (name : List ℕ) (t : Typed) (o : Option Binding) → IsGoodScope s inputs → s.is_assigned name ≡ false → s.binding name ≡ o → bound_read s role name o ≡ Ok t → IsGoodTyped (ground-of s inputs) role t
 name-good-by s inputs role name t None hs ha hb h = cc

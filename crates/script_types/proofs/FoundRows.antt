@@ -1,5 +1,5 @@
--- The row that a word and a number of operands name, where nothing is unbuilt.
-use Rattle.std.proofs.Common.{◌≡◌, ◌∙◌, ℕ, Bool, true, false, not, ◌&&◌, ◌||◌, List, [], ◌∷◌, refl, sym, ap, subst, if◌then◌else◌}
+-- The row that a word and a number of operands name.
+use Rattle.std.proofs.Common.{◌≡◌, ◌∙◌, ◌<◌, ℕ, Bool, true, false, not, ◌&&◌, ◌||◌, List, [], ◌∷◌, refl, sym, ap, subst, if◌then◌else◌, arith}
 use Rattle.std.specs.Prelude.{All, Some, ◌==◌, nat_le, nat_lt}
 use Rattle.std.specs.List.{before_first, find, list_all}
 use Rattle.std.specs.Str.{bytes_eq}
@@ -7,7 +7,7 @@ use Rattle.std.proofs.lemmas.List.Elements.{All-head, All-tail}
 use Rattle.std.proofs.lemmas.Slice.Eq.{bytes_eq-Decides}
 use Rattle.text_base.specs.Bytes.{space}
 use Rattle.cell_values.specs.declared.kind.Kind.{Kind}
-use Rattle.cell_values.specs.declared.kind.Kind.TheVariants.{Scalar, Ldd}
+use Rattle.cell_values.specs.declared.kind.Kind.TheVariants.{Boolean, Scalar, Ldd}
 use Rattle.map_meaning.specs.declared.op.Op.{Op}
 use Rattle.map_meaning.specs.declared.op.Op.TheVariants as op
 use Rattle.map_meaning.specs.declared.row.Row.{Row}
@@ -22,12 +22,11 @@ use Rattle.map_meaning.specs.declared.row.Stands.{Stands}
 use Rattle.map_meaning.specs.declared.row.Stands.TheVariants as stands
 use Rattle.map_meaning.specs.declared.table.TheConstants.{MANY_OPERANDS}
 use Rattle.map_meaning.specs.Laws.{IsItsRow}
-use Rattle.map_meaning.specs.Table.{ask_at, behind_file, first_alike, is_alike, is_kind, table_rows, takes}
+use Rattle.map_meaning.specs.Table.{ask_at, behind_file, first_alike, is_alike, is_focal, is_kind, is_length, table_rows, takes}
 use Rattle.map_meaning.proofs.Callers.{each_its_row}
-use Rattle.script_types.specs.Table.{first_ask, is_spelled, is_unbuilt_meant, row_for, stands_of, word_row}
-use Rattle.script_types.specs.Unbuilt.{is_unbuilt_word}
-use Rattle.script_types.proofs.FitLemmas.{both-left, both-right}
-use Rattle.script_types.proofs.FoundInputs.{found-none, found-passes}
+use Rattle.script_types.specs.Table.{asks_drain, first_ask, is_spelled, is_window, row_for, stands_of, word_row}
+use Rattle.script_types.proofs.FitLemmas.{both-left, both-right, not-true}
+use Rattle.script_types.proofs.FoundInputs.{found-passes}
 
 -- ---- rows that ask maps
 
@@ -40,12 +39,19 @@ same-test false b = not b
 abbrev pub same-kinds : Kinds → Kinds → Bool
 same-kinds a b = same-test a.boolean b.boolean && same-test a.nominal b.nominal && same-test a.ordinal b.ordinal && same-test a.scalar b.scalar && same-test a.directional b.directional && same-test a.ldd b.ldd
 
--- The place asks for a map, and a number without a kind has one there that is no drain map's.
+-- The place asks for a map. Unless it asks a drain map alone, a number without a kind has one there that is no drain map's.
 abbrev pub asks-map : Ask → Bool
-asks-map (ask.Only kind) = not (is_kind Ldd kind)
+asks-map (ask.Only kind) = true
 asks-map (ask.One kinds) = kinds.scalar || kinds.nominal
-asks-map (ask.Alike kinds) = kinds.scalar
+asks-map (ask.Alike kinds) = kinds.scalar && not kinds.ldd
 asks-map _ = false
+
+-- the place asks for a map that is no drain map
+abbrev pub asks-plain : Ask → Bool
+asks-plain (ask.Only kind) = not (is_kind Ldd kind)
+asks-plain (ask.One kinds) = not kinds.ldd
+asks-plain (ask.Alike kinds) = not kinds.ldd
+asks-plain _ = false
 
 -- where the place asks for one of the kinds in which operands agree, it is one of these
 abbrev pub alike-in : Kinds → Ask → Bool
@@ -66,7 +72,7 @@ is-common _ = false
 abbrev pub gives-map : Row → Given → Bool
 gives-map row (given.Always kind) = not (is_kind Ldd kind)
 gives-map row given.Common = is_alike (ask_at row (first_alike row))
-gives-map row (given.Same i) = true
+gives-map row (given.Same i) = asks-plain (ask_at row i)
 
 -- the row takes at most four operands, or it is nested: of two operands that agree, and it gives their kind
 abbrev pub takes-few : Row → Bool
@@ -76,15 +82,24 @@ takes-few row = if nat_lt row.most MANY_OPERANDS then nat_le row.most 4 else (ro
 abbrev pub has-alike : Row → Bool
 has-alike row = not (is_alike (ask_at row (first_alike row))) || nat_lt (first_alike row) row.least
 
--- the row asks maps, as many as an operation has, and gives one
-abbrev pub is-plain : Row → Bool
-is-plain row = (asks-map row.first && (asks-map row.second && asks-map row.further)) && ((agrees-with row.first row && (agrees-with row.second row && agrees-with row.further row)) && (gives-map row row.gives && (takes-few row && has-alike row)))
+-- the row asks maps, which agree where they are asked to, and a drain map alone as its first operand at most
+abbrev pub asks-maps : Row → Bool
+asks-maps row = (asks-map row.first && (asks-map row.second && asks-map row.further)) && ((agrees-with row.first row && (agrees-with row.second row && agrees-with row.further row)) && (not (asks_drain row.second) && not (asks_drain row.further)))
 
--- what holds of a row that asks maps and takes this many
-pub record IsPlain (count : ℕ) (row : Row) : Type 0 where
-  pub takes : takes row count ≡ true
+-- it asks as many as an operation has, and gives a map that is no drain map
+abbrev pub is-plain : Row → Bool
+is-plain row = asks-maps row && (gives-map row row.gives && (takes-few row && has-alike row))
+
+-- what holds of a row that asks maps
+pub record AsksMaps (row : Row) : Type 0 where
   pub asks : (i : ℕ) → asks-map (ask_at row i) ≡ true
   pub agrees : (i : ℕ) → agrees-with (ask_at row i) row ≡ true
+  pub drains : (i : ℕ) → 0 < i → asks_drain (ask_at row i) ≡ false
+
+-- what holds of one that also takes this many, and gives a map
+pub record IsPlain (count : ℕ) (row : Row) : Type 0 where
+  pub takes : takes row count ≡ true
+  pub maps : AsksMaps row
   pub gives : gives-map row row.gives ≡ true
   pub few : takes-few row ≡ true
   pub alike : has-alike row ≡ true
@@ -98,20 +113,38 @@ at-place p row i h = let more = both-right (p row.first) (p row.second && p row.
     by-place false true a b c = b
     by-place false false a b c = c
 
+no-first : (i : ℕ) → 0 < i → (i == 0) ≡ true → ⊥
+no-first i h e = grind (arith, h, e)
+
+behind-first : (row : Row) (i : ℕ) → 0 < i → (not (asks_drain row.second) && not (asks_drain row.further)) ≡ true → asks_drain (ask_at row i) ≡ false
+behind-first row i hi h = by-place (i == 0) (i == 1) refl
+  where
+    by-place : (s t : Bool) → (i == 0) ≡ s → asks_drain (if s then row.first else if t then row.second else row.further) ≡ false
+    by-place true t e = absurd (no-first i hi e)
+    by-place false true e = not-true (asks_drain row.second) (both-left (not (asks_drain row.second)) (not (asks_drain row.further)) h)
+    by-place false false e = not-true (asks_drain row.further) (both-right (not (asks_drain row.second)) (not (asks_drain row.further)) h)
+
+pub maps-asked : (row : Row) → asks-maps row ≡ true → AsksMaps row
+maps-asked row h =
+    let first = asks-map row.first && (asks-map row.second && asks-map row.further) in
+    let second = agrees-with row.first row && (agrees-with row.second row && agrees-with row.further row) in
+    let third = not (asks_drain row.second) && not (asks_drain row.further) in
+    let rest = both-right first (second && third) h in
+    record {
+      asks = λ i. at-place asks-map row i (both-left first (second && third) h);
+      agrees = λ i. at-place (λ a. agrees-with a row) row i (both-left second third rest);
+      drains = λ i hi. behind-first row i hi (both-right second third rest);
+    }
+
 -- such a row, where it takes this many
 pub plain-row : (count : ℕ) (row : Row) → takes row count ≡ true → is-plain row ≡ true → IsPlain count row
 plain-row count row ht hp =
-    let first = asks-map row.first && (asks-map row.second && asks-map row.further) in
-    let second = agrees-with row.first row && (agrees-with row.second row && agrees-with row.further row) in
-    let third = gives-map row row.gives && (takes-few row && has-alike row) in
-    let rest = both-right first (second && third) hp in
-    let last = both-right second third rest in
-    let more = both-right (gives-map row row.gives) (takes-few row && has-alike row) last in
+    let rest = both-right (asks-maps row) (gives-map row row.gives && (takes-few row && has-alike row)) hp in
+    let more = both-right (gives-map row row.gives) (takes-few row && has-alike row) rest in
     record {
       takes = ht;
-      asks = λ i. at-place asks-map row i (both-left first (second && third) hp);
-      agrees = λ i. at-place (λ a. agrees-with a row) row i (both-left second third rest);
-      gives = both-left (gives-map row row.gives) (takes-few row && has-alike row) last;
+      maps = maps-asked row (both-left (asks-maps row) (gives-map row row.gives && (takes-few row && has-alike row)) hp);
+      gives = both-left (gives-map row row.gives) (takes-few row && has-alike row) rest;
       few = both-left (takes-few row) (has-alike row) more;
       alike = both-right (takes-few row) (has-alike row) more;
     }
@@ -149,7 +182,7 @@ asks-file _ gives o = false
 
 -- the row looks its results up: its first operand is a table or a series, and the others are maps
 abbrev pub is-look-up : Op → Row → Bool
-is-look-up o row = asks-file row.first row.gives o && ((nat_le 2 row.least && nat_le row.most 5) && is-plain (behind_file row))
+is-look-up o row = asks-file row.first row.gives o && ((nat_le 2 row.least && nat_le row.most 5) && (not (asks_drain row.second) && is-plain (behind_file row)))
 
 -- the place asks a map of ids
 abbrev pub asks-ids : Ask → Bool
@@ -183,17 +216,45 @@ same-stands _ _ = false
 abbrev pub takes-just : ℕ → Row → Bool
 takes-just n row = (row.least == n) && (row.most == n)
 
--- what each row that is built is, by what it stands for
-abbrev pub is-built : Meant → Row → Bool
-is-built (meant.Op o) row = is-plain row || is-look-up o row
-is-built meant.Step row = same-stands stands.Dynamic row.stands && (gives-scalar row.gives && asks-map row.first)
-is-built meant.Stack row = same-stands stands.Dynamic row.stands && (asks-stack row.first && (takes-just 1 row && gives-same row.gives 0))
-is-built meant.Sample row = same-stands stands.Sample row.stands && (is-plain row && (asks-ids row.first && takes-just 2 row))
-is-built meant.Unbuilt row = true
+-- the place asks for one map that is no drain map and agrees with no other
+abbrev pub asks-alone : Ask → Bool
+asks-alone asked = asks-map asked && (asks-plain asked && not (is_alike asked))
 
-all-built : list_all (λ row. is-built row.meant row) table_rows ≡ true
+-- the kind that is given is no drain map's, or that of the first operand
+abbrev pub gives-alone : Given → Bool
+gives-alone (given.Always kind) = not (is_kind Ldd kind)
+gives-alone (given.Same i) = i == 0
+gives-alone given.Common = false
+
+-- the row looks at windows: its first operand is a map, and its second the length
+abbrev pub is-windowed : Op → Row → Bool
+is-windowed o row = (is_focal o && is_length row.second) && (takes-just 2 row && (asks-alone row.first && gives-alone row.gives))
+
+-- the place asks for a map of this kind
+abbrev pub asks-kind : Ask → Kind → Bool
+asks-kind (ask.Only asked) kind = is_kind asked kind
+asks-kind _ kind = false
+
+-- a drain map is given
+abbrev pub gives-drain : Given → Bool
+gives-drain (given.Always kind) = is_kind Ldd kind
+gives-drain _ = false
+
+-- the row masks a drain map with a boolean
+abbrev pub is-masking : Row → Bool
+is-masking row = asks-maps row && ((asks-kind row.first Ldd && asks-kind row.second Boolean) && (takes-just 2 row && gives-drain row.gives))
+
+-- what each row is, by what it stands for
+abbrev pub is-as-meant : Meant → Row → Bool
+is-as-meant (meant.Op o) row = is-plain row || (is-look-up o row || is-windowed o row)
+is-as-meant meant.Step row = same-stands stands.Dynamic row.stands && (gives-scalar row.gives && asks-map row.first)
+is-as-meant meant.Stack row = same-stands stands.Dynamic row.stands && (asks-stack row.first && (takes-just 1 row && gives-same row.gives 0))
+is-as-meant meant.Sample row = same-stands stands.Sample row.stands && (is-plain row && (asks-ids row.first && (takes-just 2 row && asks-plain row.second)))
+is-as-meant meant.Mask row = same-stands stands.Mask row.stands && is-masking row
+
+all-as-meant : list_all (λ row. is-as-meant row.meant row) table_rows ≡ true
 unfolding table_rows
-all-built = refl
+all-as-meant = refl
 
 -- ---- rows that are written alike
 
@@ -215,9 +276,13 @@ same-file a b = asks-no-file a && asks-no-file b
 abbrev pub spelling : Row → List ℕ
 spelling row = before_first (λ byte. byte == space) row.word
 
--- rows that are written alike stand at the same places, and ask the same table, series or stack where they ask one
+-- the rows stand at the same places, and ask the same table, series or stack, a drain map or a length where one does
+abbrev pub are-one : Row → Row → Bool
+are-one row other = (same-file row.first other.first && same-stands row.stands other.stands) && (same-test (asks_drain row.first) (asks_drain other.first) && same-test (is_length row.second) (is_length other.second))
+
+-- rows that are written alike do
 abbrev pub are-alike : Row → Row → Bool
-are-alike row other = not (bytes_eq (spelling row) (spelling other)) || (same-file row.first other.first && same-stands row.stands other.stands)
+are-alike row other = not (bytes_eq (spelling row) (spelling other)) || are-one row other
 
 all-alike : list_all (λ row. list_all (are-alike row) table_rows) table_rows ≡ true
 unfolding table_rows
@@ -247,11 +312,12 @@ same_stands stands.Mask stands.Mask h = refl
 pub record IsFound (word : List ℕ) (count : ℕ) (row : Row) : Type 0 where
   pub takes : takes row count ≡ true
   pub its : IsItsRow row
-  pub built : is_unbuilt_meant row.meant ≡ false
-  pub as_built : is-built row.meant row ≡ true
+  pub as_meant : is-as-meant row.meant row ≡ true
   -- what the word's first row asks, and where the word may stand
   pub first : same-file row.first (first_ask (word_row word)) ≡ true
   pub stands : stands_of (word_row word) ≡ row.stands
+  pub drain : asks_drain (first_ask (word_row word)) ≡ asks_drain row.first
+  pub window : is_window (word_row word) ≡ is_length row.second
 
 -- neither holds
 pub neither-left : (a b : Bool) → (a || b) ≡ false → a ≡ false
@@ -288,9 +354,9 @@ found-one {A = A} p q (x ∷ xs) y h = by-test (p x) (q x) (found-one p q xs y) 
     by-test true t ih g = (x, refl)
     by-test false t ih g = ih g
 
-built-of : (s u : Bool) → s ≡ true → (s && u) ≡ false → u ≡ false
-built-of true u hs h = h
-built-of false u hs h = cc
+tests-same : (a b : Bool) → same-test a b ≡ true → b ≡ a
+tests-same true b h = h
+tests-same false b h = not-true b h
 
 alike-of : (s t : Bool) → s ≡ true → (not s || t) ≡ true → t ≡ true
 alike-of true t hs h = h
@@ -299,23 +365,30 @@ alike-of false t hs h = cc
 same-spelling : (row other : Row) (word : List ℕ) → is_spelled row word ≡ true → is_spelled other word ≡ true → bytes_eq (spelling row) (spelling other) ≡ true
 same-spelling row other word h g = (bytes_eq-Decides (spelling row) (spelling other)).1 ((bytes_eq-Decides (spelling row) word).0 h ∙ sym ((bytes_eq-Decides (spelling other) word).0 g))
 
--- the row of a call is one of the table, built, and takes as many operands
-pub found-row : (word : List ℕ) (count : ℕ) (row : Row) → is_unbuilt_word word ≡ false → row_for word count ≡ Some row → IsFound word count row
-unfolding is_unbuilt_word row_for word_row
-found-row word count row hu h =
+-- the row of a call is one of the table, and takes as many operands
+pub found-row : (word : List ℕ) (count : ℕ) (row : Row) → row_for word count ≡ Some row → IsFound word count row
+unfolding row_for word_row
+found-row word count row h =
     let asked = λ (r : Row). is_spelled r word && takes r count in
     let passes = found-passes asked table_rows row h in
     let spelled = both-left (is_spelled row word) (takes row count) passes in
     let first = found-one (λ r. is_spelled r word) (λ r. takes r count) table_rows row h in
     let other = first.0 in
-    let alike = alike-of (bytes_eq (spelling row) (spelling other)) (same-file row.first other.first && same-stands row.stands other.stands)
+    let alike = alike-of (bytes_eq (spelling row) (spelling other)) (are-one row other)
     (same-spelling row other word spelled (found-passes (λ r. is_spelled r word) table_rows other first.1))
     (found-all (λ r. is_spelled r word) (are-alike row) table_rows other (found-all asked (λ r. list_all (are-alike r) table_rows) table_rows row all-alike h) first.1) in
+    let file = same-file row.first other.first in
+    let at = same-stands row.stands other.stands in
+    let drain = same-test (asks_drain row.first) (asks_drain other.first) in
+    let length = same-test (is_length row.second) (is_length other.second) in
+    let two = both-left (file && at) (drain && length) alike in
+    let more = both-right (file && at) (drain && length) alike in
     record {
       takes = both-right (is_spelled row word) (takes row count) passes;
       its = found-its asked table_rows row each_its_row h;
-      built = built-of (is_spelled row word) (is_unbuilt_meant row.meant) spelled (found-none asked (λ r. is_spelled r word && is_unbuilt_meant r.meant) table_rows row hu h);
-      as_built = found-all asked (λ r. is-built r.meant r) table_rows row all-built h;
-      first = ap (λ o. same-file row.first (first_ask o)) first.1 ∙ both-left (same-file row.first other.first) (same-stands row.stands other.stands) alike;
-      stands = ap stands_of first.1 ∙ sym (same_stands row.stands other.stands (both-right (same-file row.first other.first) (same-stands row.stands other.stands) alike));
+      as_meant = found-all asked (λ r. is-as-meant r.meant r) table_rows row all-as-meant h;
+      first = ap (λ o. same-file row.first (first_ask o)) first.1 ∙ both-left file at two;
+      stands = ap stands_of first.1 ∙ sym (same_stands row.stands other.stands (both-right file at two));
+      drain = ap (λ o. asks_drain (first_ask o)) first.1 ∙ tests-same (asks_drain row.first) (asks_drain other.first) (both-left drain length more);
+      window = ap is_window first.1 ∙ tests-same (is_length row.second) (is_length other.second) (both-right drain length more);
     }

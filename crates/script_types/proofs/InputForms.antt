@@ -2,26 +2,24 @@
 use Rattle.std.proofs.Common.{◌≡◌, ◌<◌, ℕ, zero, suc, true, List, [], ◌∷◌, length, sym, ap, subst, ◌∙◌, arith}
 use Rattle.std.specs.Prelude.{IfSome, Option, None, Some, option_map, slice_get}
 use Rattle.cell_values.specs.declared.kind.Kind.{Kind}
-use Rattle.script_syntax.specs.declared.tree.Script.{Script}
 use Rattle.map_meaning.specs.declared.program.InputUse.{InputUse}
 use Rattle.map_meaning.specs.declared.program.Program.{Program}
 use Rattle.map_meaning.specs.declared.program.Role.{Role}
 use Rattle.map_meaning.specs.declared.program.Role.TheVariants.{Grid}
 use Rattle.map_meaning.specs.Programs.{IsFileOf, IsIds, IsInput, input_kind, is_id_kind}
-use Rattle.script_types.specs.Lowered.{area_number, inputs_of}
 use Rattle.script_types.proofs.FitLemmas.{HasFile, HasIds, HasInput}
-use Rattle.script_types.proofs.SettledInputs.{HasArea}
 
 there-within : {A : Type 0} (xs : List A) (n : ℕ) (x : A) → slice_get xs n ≡ Some x → n < length xs
 there-within [] n x h = absurd (let z = h in cc)
 there-within (y ∷ xs) zero x h = omega arith
 there-within (y ∷ xs) (suc n) x h = let k = there-within xs n x h in omega (arith, k)
 
-at-some : {A : Type 0} (o : Option A) (P : A → Type 0) (x : A) → o ≡ Some x → P x → IfSome o P
+-- what holds of what is there
+pub at-some : {A : Type 0} (o : Option A) (P : A → Type 0) (x : A) → o ≡ Some x → P x → IfSome o P
 at-some None P x e h = absurd (let z = e in cc)
 at-some (Some y) P x e h = let z : y ≡ x = cc in subst P (sym z) h
 
-there-input : (program : Program) (role : Role) (n : ℕ) (i : InputUse) → slice_get program.inputs n ≡ Some i → i.role ≡ role → IsInput program role n
+pub there-input : (program : Program) (role : Role) (n : ℕ) (i : InputUse) → slice_get program.inputs n ≡ Some i → i.role ≡ role → IsInput program role n
 there-input program role n i h hr = record { within = there-within program.inputs n i h; role = at-some (slice_get program.inputs n) (λ x. x.role ≡ role) i h hr }
 
 -- an input of a role
@@ -41,7 +39,3 @@ pub ids-form : (program : Program) (inputs : List InputUse) (n : ℕ) → progra
 ids-form program inputs n e h =
     let there = ap (λ is. slice_get is n) e ∙ h.there in
     record { input = there-input program Grid n h.input there h.role_is; kind = at-some (input_kind program n) (λ k. is_id_kind k ≡ true) h.input.kind (ap (option_map (λ i. i.kind)) there) h.id_kind }
-
--- the area map
-pub area-form : (program : Program) (script : Script) → program.inputs ≡ inputs_of script → program.area ≡ area_number script → HasArea script → IsInput program Grid program.area
-area-form program script e ha h = there-input program Grid program.area h.input (ap (λ is. slice_get is program.area) e ∙ ap (slice_get (inputs_of script)) ha ∙ h.there) h.grid

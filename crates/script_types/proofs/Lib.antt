@@ -1,5 +1,8 @@
+mod BegunPrograms
 mod BindingLemmas
 mod CallAnswers
+mod DrainInputs
+mod EmitDrains
 mod EmitLemmas
 mod FirstUses
 mod FoundInputs
@@ -7,6 +10,8 @@ mod FoundRows
 mod FitCalls
 mod FitLemmas
 mod FitNodes
+mod FitOperands
+mod FitTrees
 mod KeptLemmas
 mod KeptPrograms
 mod FormedPrograms
@@ -37,9 +42,10 @@ mod SoundLemmas
 mod StackCounts
 mod StackDigits
 mod StackFiles
+mod Stages
 mod Steps
 mod TreeCounts
+mod TreeSizes
 mod TypedCalls
-mod UnbuiltLemmas
 mod ValueLemmas
 pub mod MapRows

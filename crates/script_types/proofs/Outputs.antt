@@ -1,12 +1,13 @@
 -- The outputs of settled statements: how they show themselves, and that each is one of the program.
-use Rattle.std.proofs.Common.{◌≡◌, ◌≤◌, ℕ, suc, ◌+◌, Bool, true, false, List, [], ◌∷◌, ◌++◌, length, map, refl, sym, ap, subst, ◌∙◌, if◌then◌else◌, arith}
+use Rattle.std.proofs.Common.{◌≡◌, ◌<◌, ◌≤◌, ℕ, suc, ◌+◌, Bool, true, false, List, [], ◌∷◌, ◌++◌, length, map, refl, sym, ap, subst, ◌∙◌, if◌then◌else◌, arith}
 use Rattle.std.specs.Prelude.{IfSome, None, Option, Some}
 use Rattle.std.specs.Option.{is_some}
 use Rattle.text_base.specs.Words.{is_file_word}
 use Rattle.map_meaning.specs.declared.program.Operand.{Operand}
+use Rattle.map_meaning.specs.declared.program.Operand.TheVariants as from
 use Rattle.map_meaning.specs.declared.program.OutputUse.{OutputUse}
 use Rattle.map_meaning.specs.declared.program.Program.{Program}
-use Rattle.map_meaning.specs.Programs.{IsBelowNow, IsOutput, IsOutputValue, is_initial_grid}
+use Rattle.map_meaning.specs.Programs.{IsBelow, IsBelowNow, IsInitialValue, IsOutput, IsOutputValue, is_initial_grid}
 use Rattle.script_types.specs.declared.typed.Line.{Line}
 use Rattle.script_types.specs.declared.typed.Section.{Section}
 use Rattle.script_types.specs.declared.typed.Section.TheVariants.{Initial, Dynamic}
@@ -15,10 +16,10 @@ use Rattle.script_types.specs.Reports.{Bound, file_written}
 use Rattle.script_types.specs.inside.FitLines.{Frame, LinesFit}
 use Rattle.script_types.specs.inside.Fits.{is_ids}
 use Rattle.script_types.specs.inside.Sections.{operations_within}
-use Rattle.script_types.specs.inside.Written.{AreIn, AreValuesOf, IsValueOf, output_with, outputs_with}
+use Rattle.script_types.specs.inside.Written.{AreIn, AreValuesOf, IsOwn, IsValueOf, output_with, outputs_with}
 use Rattle.script_types.proofs.FitLemmas.{has-ids}
 use Rattle.script_types.proofs.InputForms.{ids-form}
-use Rattle.script_types.proofs.KeptPrograms.{IsKeptAs, dynamic-count, initial-count, now-same, operand-kind}
+use Rattle.script_types.proofs.KeptPrograms.{IsKeptAs, drain-count, dynamic-count, initial-count, now-same, operand-kind}
 use Rattle.script_types.proofs.Pairwise.{Each, each-append}
 
 -- ---- how they show themselves
@@ -73,11 +74,35 @@ dynamic-form l e = ap (λ s. is_initial_grid (form_by s l.sample)) e ∙ by-samp
 -- ---- that each is one of the program
 
 module _ (p q : Program) (same : IsKeptAs p q) (frame : Frame) (inputs-are : q.inputs ≡ frame.inputs) where
+  -- what a statement of `initial` gives
+  initial-there : (n : ℕ) (x : Operand) → IsBelow q n x → IsOwn Initial (length q.initial) x → IsInitialValue p x
+  initial-there n from.Unused r h = absurd h
+  initial-there n (from.Literal kind cell) r h = absurd h
+  initial-there n from.Time r h = absurd h
+  initial-there n (from.Input k) r h = absurd h
+  initial-there n (from.Stack k) r h = absurd h
+  initial-there n (from.Initial k) r h = let c = initial-count p q same in omega (arith, h, c)
+  initial-there n (from.Now k) r h = absurd h
+  initial-there n (from.Last d k) r h = absurd h
+  initial-there n (from.Drain k) r h = let b = r.within in let c = drain-count p q same in omega (arith, b, c)
+
+  -- and one of `dynamic`
+  dynamic-there : (x : Operand) → IsOwn Dynamic (length q.dynamic) x → (n : ℕ) × (x ≡ from.Now n) × (n < length p.dynamic)
+  dynamic-there from.Unused h = absurd h
+  dynamic-there (from.Literal kind cell) h = absurd h
+  dynamic-there from.Time h = absurd h
+  dynamic-there (from.Input k) h = absurd h
+  dynamic-there (from.Stack k) h = absurd h
+  dynamic-there (from.Initial k) h = absurd h
+  dynamic-there (from.Now k) h = let c = dynamic-count p q same in (k, refl, omega (arith, h, c))
+  dynamic-there (from.Last d k) h = absurd h
+  dynamic-there (from.Drain k) h = absurd h
+
   -- what an output writes
   value-there : (section : Section) (l : Line) (x : Operand) (sample : Option ℕ) → l.sample ≡ sample → (is_some sample ≡ true → section ≡ Dynamic) → IfSome sample (λ ids. is_ids frame.inputs ids ≡ true) → IsValueOf q section (length (operations_within section q)) l x → IsOutputValue p (form_by section sample) x
-  value-there Initial l x None e steps ids v = let k = v.own e in let b = k.1.1 in let c = initial-count p q same in (k.0, k.1.0, omega (arith, b, c))
+  value-there Initial l x None e steps ids v = initial-there (length q.initial) x v.given.read (v.own e)
   value-there Initial l x (Some n) e steps ids v = absurd (let z = steps refl in cc)
-  value-there Dynamic l x None e steps ids v = let k = v.own e in let b = k.1.1 in let c = dynamic-count p q same in (k.0, k.1.0, omega (arith, b, c))
+  value-there Dynamic l x None e steps ids v = dynamic-there x (v.own e)
   value-there Dynamic l x (Some n) e steps ids v = (ids-form p frame.inputs n (same.inputs ∙ inputs-are) (has-ids frame.inputs n ids), subst (λ k. IsBelowNow p k x) (sym (dynamic-count p q same)) (now-same p q same (length q.dynamic) x v.given.read))
 
   each-if : (b : Bool) (u : OutputUse) → IsOutput p u → Each (IsOutput p) (if b then u ∷ [] else [])

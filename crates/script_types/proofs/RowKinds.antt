@@ -14,11 +14,11 @@ use Rattle.map_meaning.specs.declared.row.Meant.TheVariants as meant
 use Rattle.map_meaning.specs.declared.table.TheConstants.{MANY_OPERANDS}
 use Rattle.map_meaning.specs.Laws.{IsItsRow}
 use Rattle.map_meaning.specs.Rules.{kind_at}
-use Rattle.map_meaning.specs.Table.{allows, ask_at, behind_file, common_kind, first_alike, given_kind, has_count, has_kind, is_alike, is_kind, row_of, takes}
+use Rattle.map_meaning.specs.Table.{allows, ask_at, before_length, behind_file, common_kind, first_alike, given_kind, has_count, has_kind, is_alike, is_kind, row_of, takes}
 use Rattle.map_meaning.proofs.Callers.{same_kind}
 use Rattle.script_types.specs.inside.Sound.{are_allowed, has_kinds}
 use Rattle.script_types.proofs.FitLemmas.{both-left, both-right}
-use Rattle.script_types.proofs.FoundRows.{IsPlain, agrees-with, alike-in, gives-map, has-alike, is-common, same-kinds, same-test, takes-few}
+use Rattle.script_types.proofs.FoundRows.{IsPlain, agrees-with, alike-in, gives-alone, gives-map, has-alike, is-common, same-kinds, same-test, takes-few, takes-just}
 use Rattle.script_types.proofs.SoundLemmas.{allowed-at}
 
 -- a kind is itself
@@ -217,6 +217,29 @@ row-has-kinds row agreed ks hf hm h =
     by-alike false e =
         both-are (are_allowed row (common_kind row ks) 0 ks) (is_kind (given_kind row.gives (common_kind row ks) ks) (given_kind row.gives agreed ks)) (same-all row (common_kind row ks) agreed 0 ks e ∙ h)
         (ap (λ k. is_kind k (given_kind row.gives agreed ks)) (same-given row row.gives (common_kind row ks) agreed ks e hf.gives) ∙ kind-itself (given_kind row.gives agreed ks))
+
+-- ---- windows
+
+window-count : (least most : ℕ) → ((least == 2) && (most == 2)) ≡ true → (if nat_lt (most - 1) MANY_OPERANDS then (nat_le (least - 1) 1 && nat_le 1 (most - 1)) else (1 == least - 1)) ≡ true
+window-count least most h =
+    let a = both-left (least == 2) (most == 2) h in
+    let b = both-right (least == 2) (most == 2) h in
+    let l : least ≡ 2 = grind (arith, a) in
+    let m : most ≡ 2 = grind (arith, b) in
+    ap (λ n. if nat_lt (n - 1) MANY_OPERANDS then (nat_le (least - 1) 1 && nat_le 1 (n - 1)) else (1 == least - 1)) m ∙ ap (λ n. nat_le (n - 1) 1 && nat_le 1 1) l
+
+given-alone : (gives : Given) (a b k : Kind) (rest : List Kind) → gives-alone gives ≡ true → is_kind (given_kind gives a (k ∷ [])) (given_kind gives b (k ∷ rest)) ≡ true
+given-alone (given.Always j) a b k rest h = kind-itself j
+given-alone (given.Same i) a b k rest h = let z : i ≡ 0 = grind (arith, h) in subst (λ n. is_kind (kind_at (k ∷ []) n) (kind_at (k ∷ rest) n) ≡ true) (sym z) (kind-itself k)
+given-alone given.Common a b k rest h = cc
+
+-- a row of a window without the length, where its one operand's kind is allowed
+pub window-has-kinds : (row : Row) (agreed k : Kind) (rest : List Kind) → takes-just 2 row ≡ true → is_alike row.first ≡ false → gives-alone row.gives ≡ true → allows agreed row.first k ≡ true → has_kinds (before_length row) (k ∷ []) (given_kind row.gives agreed (k ∷ rest)) ≡ true
+window-has-kinds row agreed k rest ht hl hg ha =
+    let common = common_kind (before_length row) (k ∷ []) in
+    let last = is_kind (given_kind row.gives common (k ∷ [])) (given_kind row.gives agreed (k ∷ rest)) in
+    both-are (has_count (before_length row) 1) ((allows common row.first k && true) && last) (window-count row.least row.most ht)
+    (both-are (allows common row.first k && true) last (both-are (allows common row.first k) true (same-allowed row.first common agreed k hl ∙ ha) refl) (given-alone row.gives common agreed k rest hg))
 
 -- ---- nested operations
 

@@ -1,33 +1,39 @@
 -- The operations and maps of a section, where more are written and done.
-use Rattle.std.proofs.Common.{◌≡◌, ℕ, ◌<◌, ◌≤◌, List, [], ◌∷◌, ◌++◌, length, refl, sym, ap, ◌∙◌, Ok, Err, Result, arith, append_assoc, append-nil}
+use Rattle.std.proofs.Common.{◌≡◌, false, ℕ, ◌<◌, ◌≤◌, List, [], ◌∷◌, ◌++◌, length, refl, sym, ap, ◌∙◌, Ok, Err, Result, arith, append_assoc, append-nil}
+use Rattle.std.specs.Prelude.{IfSome, None, Option, Some, slice_get}
 use Rattle.std.proofs.lemmas.List.{get_or_append_left}
 use Rattle.text_base.specs.Results.{◌>>=◌}
+use Rattle.cell_values.specs.declared.kind.Kind.{Kind}
+use Rattle.cell_values.specs.declared.kind.Kind.TheVariants.{Ldd}
 use Rattle.map_meaning.specs.declared.known.OverAt.{OverAt}
+use Rattle.map_meaning.specs.declared.program.DrainUse.{DrainUse}
 use Rattle.map_meaning.specs.declared.program.Operand.{Operand}
 use Rattle.map_meaning.specs.declared.program.Operand.TheVariants as from
 use Rattle.map_meaning.specs.declared.program.Operation.{Operation}
 use Rattle.map_meaning.specs.declared.program.Program.{Program}
 use Rattle.map_meaning.specs.Evaluation.{Done, operand_map, operation_value, operation_values, with_map}
 use Rattle.map_meaning.specs.Maps.{WholeMap, nth}
-use Rattle.map_meaning.specs.Programs.{operand_kind, operation_kind}
+use Rattle.map_meaning.specs.Programs.{IsDueBy, operand_kind, operation_kind}
 use Rattle.map_meaning.specs.Scenes.{Scene}
+use Rattle.map_meaning.specs.Table.{is_kind}
 use Rattle.script_types.specs.declared.typed.Section.{Section}
 use Rattle.script_types.specs.declared.typed.Section.TheVariants.{Initial, Dynamic}
+use Rattle.script_types.specs.inside.Drains.{IsDrainBelow, drain_in}
 use Rattle.script_types.specs.inside.Fits.{Ground}
 use Rattle.script_types.specs.inside.Sections.{IsBegun, Holder, IsGiven, MayRead, NamesBefore, Stands, maps_in, operations_within, own_operand, span_in, with_maps}
-use Rattle.script_types.specs.inside.Values.{AllBefore, AreGiven}
+use Rattle.script_types.specs.inside.Values.{AllBefore, AreDrainsOf, AreGiven}
 
 -- ---- maps
 
 -- no more maps
 pub with-nothing : (s : Section) (d : Done) → with_maps s d [] ≡ d
-with-nothing Initial d = let f : List WholeMap → Done = λ ms. record { initial = ms; dynamic = d.dynamic; last = d.last } in ap f (append-nil d.initial)
-with-nothing Dynamic d = let f : List WholeMap → Done = λ ms. record { initial = d.initial; dynamic = ms; last = d.last } in ap f (append-nil d.dynamic)
+with-nothing Initial d = let f : List WholeMap → Done = λ ms. record { initial = ms; dynamic = d.dynamic; last = d.last; drains = d.drains } in ap f (append-nil d.initial)
+with-nothing Dynamic d = let f : List WholeMap → Done = λ ms. record { initial = d.initial; dynamic = ms; last = d.last; drains = d.drains } in ap f (append-nil d.dynamic)
 
 -- more maps, and more behind them
 pub with-both : (s : Section) (d : Done) (xs ys : List WholeMap) → with_maps s (with_maps s d xs) ys ≡ with_maps s d (xs ++ ys)
-with-both Initial d xs ys = let f : List WholeMap → Done = λ ms. record { initial = ms; dynamic = d.dynamic; last = d.last } in ap f (append_assoc d.initial xs ys)
-with-both Dynamic d xs ys = let f : List WholeMap → Done = λ ms. record { initial = d.initial; dynamic = ms; last = d.last } in ap f (append_assoc d.dynamic xs ys)
+with-both Initial d xs ys = let f : List WholeMap → Done = λ ms. record { initial = ms; dynamic = d.dynamic; last = d.last; drains = d.drains } in ap f (append_assoc d.initial xs ys)
+with-both Dynamic d xs ys = let f : List WholeMap → Done = λ ms. record { initial = d.initial; dynamic = ms; last = d.last; drains = d.drains } in ap f (append_assoc d.dynamic xs ys)
 
 pub maps-with : (s : Section) (d : Done) (xs : List WholeMap) → maps_in s (with_maps s d xs) ≡ maps_in s d ++ xs
 maps-with Initial d xs = refl
@@ -71,6 +77,7 @@ operand-stays Initial scene d added (from.Stack n) h = refl
 operand-stays Initial scene d added (from.Initial n) h = get_or_append_left d.initial added [] n h
 operand-stays Initial scene d added (from.Now n) h = refl
 operand-stays Initial scene d added (from.Last k n) h = absurd h
+operand-stays Initial scene d added (from.Drain n) h = refl
 operand-stays Dynamic scene d added from.Unused h = refl
 operand-stays Dynamic scene d added (from.Literal kind cell) h = refl
 operand-stays Dynamic scene d added from.Time h = refl
@@ -79,6 +86,7 @@ operand-stays Dynamic scene d added (from.Stack n) h = refl
 operand-stays Dynamic scene d added (from.Initial n) h = refl
 operand-stays Dynamic scene d added (from.Now n) h = get_or_append_left d.dynamic added [] n h
 operand-stays Dynamic scene d added (from.Last k n) h = refl
+operand-stays Dynamic scene d added (from.Drain n) h = refl
 
 -- an operation's own operand
 pub own-map : (s : Section) (scene : Scene) (d : Done) (n : ℕ) → operand_map scene d (own_operand s n) ≡ nth (maps_in s d) n
@@ -107,6 +115,7 @@ read-before program Initial n (from.Stack i) h = tt
 read-before program Initial n (from.Initial i) h = h
 read-before program Initial n (from.Now i) h = tt
 read-before program Initial n (from.Last k i) h = h
+read-before program Initial n (from.Drain i) h = tt
 read-before program Dynamic n from.Unused h = tt
 read-before program Dynamic n (from.Literal kind cell) h = tt
 read-before program Dynamic n from.Time h = tt
@@ -115,6 +124,7 @@ read-before program Dynamic n (from.Stack i) h = tt
 read-before program Dynamic n (from.Initial i) h = tt
 read-before program Dynamic n (from.Now i) h = h
 read-before program Dynamic n (from.Last k i) h = tt
+read-before program Dynamic n (from.Drain i) h = tt
 
 -- and so it is at a later operation
 pub before-more : (s : Section) (n k : ℕ) (x : Operand) → n ≤ k → NamesBefore s n x → NamesBefore s k x
@@ -126,6 +136,7 @@ before-more Initial n k (from.Stack i) h b = tt
 before-more Initial n k (from.Initial i) h b = omega (arith, h, b)
 before-more Initial n k (from.Now i) h b = tt
 before-more Initial n k (from.Last d i) h b = b
+before-more Initial n k (from.Drain i) h b = tt
 before-more Dynamic n k from.Unused h b = tt
 before-more Dynamic n k (from.Literal kind cell) h b = tt
 before-more Dynamic n k from.Time h b = tt
@@ -134,6 +145,14 @@ before-more Dynamic n k (from.Stack i) h b = tt
 before-more Dynamic n k (from.Initial i) h b = tt
 before-more Dynamic n k (from.Now i) h b = omega (arith, h, b)
 before-more Dynamic n k (from.Last d i) h b = tt
+before-more Dynamic n k (from.Drain i) h b = tt
+
+due-more : (program : Program) (n k i : ℕ) → n ≤ k → IsDueBy program n i → IsDueBy program k i
+due-more program n k i h b = record { within = b.within; after = at-most (slice_get program.drains i) b.after }
+  where
+    at-most : (o : Option DrainUse) → IfSome o (λ d. d.after ≤ n) → IfSome o (λ d. d.after ≤ k)
+    at-most None a = tt
+    at-most (Some d) a = omega (arith, a, h)
 
 pub read-more : (program : Program) (s : Section) (n k : ℕ) (x : Operand) → n ≤ k → MayRead program s n x → MayRead program s k x
 read-more program Initial n k from.Unused h b = tt
@@ -144,6 +163,7 @@ read-more program Initial n k (from.Stack i) h b = b
 read-more program Initial n k (from.Initial i) h b = omega (arith, h, b)
 read-more program Initial n k (from.Now i) h b = b
 read-more program Initial n k (from.Last d i) h b = b
+read-more program Initial n k (from.Drain i) h b = due-more program n k i h b
 read-more program Dynamic n k from.Unused h b = tt
 read-more program Dynamic n k (from.Literal kind cell) h b = b
 read-more program Dynamic n k from.Time h b = tt
@@ -152,9 +172,47 @@ read-more program Dynamic n k (from.Stack i) h b = b
 read-more program Dynamic n k (from.Initial i) h b = b
 read-more program Dynamic n k (from.Now i) h b = omega (arith, h, b)
 read-more program Dynamic n k (from.Last d i) h b = b
+read-more program Dynamic n k (from.Drain i) h b = b
 
 pub given-more : (program : Program) (s : Section) (n k : ℕ) (x : Operand) → n ≤ k → IsGiven program s n x → IsGiven program s k x
 given-more program s n k x h g = record { read = read-more program s n k x h g.read; used = g.used }
+
+-- ---- drain maps
+
+-- a drain map is one of more
+pub drain-more : (m k : ℕ) (kind : Kind) (x : Operand) → m ≤ k → IsDrainBelow m kind x → IsDrainBelow k kind x
+drain-more m k kind from.Unused h b = b
+drain-more m k kind (from.Literal c v) h b = b
+drain-more m k kind from.Time h b = b
+drain-more m k kind (from.Input i) h b = b
+drain-more m k kind (from.Stack i) h b = b
+drain-more m k kind (from.Initial i) h b = b
+drain-more m k kind (from.Now i) h b = b
+drain-more m k kind (from.Last d i) h b = b
+drain-more m k kind (from.Drain i) h b = omega (arith, h, b)
+
+-- an operation's own map is no drain map
+pub own-drain : (s : Section) (m n : ℕ) (kind : Kind) → is_kind Ldd kind ≡ false → IsDrainBelow m kind (own_operand s n)
+own-drain Initial m n kind h = h
+own-drain Dynamic m n kind h = h
+
+-- an operand of their kind is a drain map
+pub drain-is : (m : ℕ) (x : Operand) → IsDrainBelow m Ldd x → (x ≡ from.Drain (drain_in x)) × (drain_in x < m)
+drain-is m from.Unused b = cc
+drain-is m (from.Literal c v) b = cc
+drain-is m from.Time b = cc
+drain-is m (from.Input i) b = cc
+drain-is m (from.Stack i) b = cc
+drain-is m (from.Initial i) b = cc
+drain-is m (from.Now i) b = cc
+drain-is m (from.Last d i) b = cc
+drain-is m (from.Drain i) b = (refl, b)
+
+pub all-drains-push : (m : ℕ) (kinds : List Kind) (xs : List Operand) (kind : Kind) (x : Operand) → length xs ≡ length kinds → AreDrainsOf m kinds xs → IsDrainBelow m kind x → AreDrainsOf m (kinds ++ kind ∷ []) (xs ++ x ∷ [])
+all-drains-push m [] [] kind x e a b = (b, tt)
+all-drains-push m [] (y ∷ xs) kind x e a b = cc
+all-drains-push m (k ∷ kinds) [] kind x e a b = cc
+all-drains-push m (k ∷ kinds) (y ∷ xs) kind x e a b = (a.0, all-drains-push m kinds xs kind x (omega (arith, e)) a.1 b)
 
 -- ---- lists of operands
 
@@ -177,8 +235,8 @@ all-given-push program s n (y ∷ xs) x a h = (a.0, all-given-push program s n x
 -- ---- programs
 
 -- a section that begins with more begins with less
-pub begins-less : (s : Section) (program : Program) (less new added : List Operation) → new ≡ less ++ added → IsBegun s new program → IsBegun s less program
+abbrev pub begins-less : (s : Section) (program : Program) (less new added : List Operation) → new ≡ less ++ added → IsBegun s new program → IsBegun s less program
 begins-less s program less new added e b = record { more = added ++ b.more; is = b.is ∙ ap (λ ops. ops ++ b.more) e ∙ append_assoc less added b.more }
 
-pub stands-less : (s : Section) (g : Ground) (holder : Holder) (first : ℕ) (program : Program) (less new added : List Operation) → new ≡ less ++ added → Stands s g holder first new program → Stands s g holder first less program
+abbrev pub stands-less : (s : Section) (g : Ground) (holder : Holder) (first : ℕ) (program : Program) (less new added : List Operation) → new ≡ less ++ added → Stands s g holder first new program → Stands s g holder first less program
 stands-less s g holder first program less new added e x = record { around = x.around; begins = begins-less s program less new added e x.begins }

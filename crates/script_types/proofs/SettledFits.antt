@@ -1,5 +1,5 @@
--- That the right side of each settled statement fits where it stands, where nothing is unbuilt.
-use Rattle.std.proofs.Common.{◌≡◌, ◌<◌, ℕ, ◌+◌, Bool, true, false, not, ◌&&◌, ◌||◌, List, [], ◌∷◌, ◌++◌, map, length, refl, sym, ap, suc, subst, length-append, ◌∙◌, Result, Ok, Err, append_assoc, append-nil, if◌then◌else◌, arith}
+-- That the right side of each settled statement fits where it stands.
+use Rattle.std.proofs.Common.{◌≡◌, ◌⊎◌, inl, inr, ◌<◌, ℕ, ◌+◌, Bool, true, false, ◌&&◌, ◌||◌, List, [], ◌∷◌, ◌++◌, map, length, refl, sym, ap, suc, subst, length-append, ◌∙◌, Result, Ok, Err, append_assoc, append-nil, if◌then◌else◌, arith}
 use Rattle.std.specs.Prelude.{⊤, IfSome, Option, None, Some, nat_le, nat_lt}
 use Rattle.std.specs.List.{list_all, list_any}
 use Rattle.std.specs.Option.{is_some, unwrap_or}
@@ -19,7 +19,6 @@ use Rattle.script_syntax.specs.declared.tree.Script.{Script}
 use Rattle.script_syntax.specs.declared.tree.Statement.{Statement}
 use Rattle.script_syntax.specs.declared.tree.Target.{Target}
 use Rattle.script_syntax.specs.declared.tree.Target.TheVariants as target
-use Rattle.map_meaning.specs.declared.op.Op.{Op}
 use Rattle.map_meaning.specs.declared.op.Op.TheVariants.{CopyOf}
 use Rattle.map_meaning.specs.declared.program.InputUse.{InputUse}
 use Rattle.map_meaning.specs.declared.tree.Tree.{Tree, roll-Tree}
@@ -27,8 +26,8 @@ use Rattle.map_meaning.specs.declared.tree.Tree.TheVariants as tree
 use Rattle.map_meaning.specs.declared.tree.Tree.TheFolds.{ind-Tree}
 use Rattle.map_meaning.specs.declared.tree.Tree.TheOpen.{Tree-F}
 use Rattle.map_meaning.specs.Table.{is_kind, row_of}
-use Rattle.map_meaning.specs.Trees.{meaning_of, operations_in}
-use Rattle.map_meaning.proofs.Callers.{meaning_of-Call, meaning_of-LookUp, same_kind}
+use Rattle.map_meaning.specs.Trees.{meaning_of}
+use Rattle.map_meaning.proofs.Callers.{meaning_of-Mask, same_kind}
 use Rattle.script_types.specs.declared.fault.MeaningFault.{MeaningFault}
 use Rattle.script_types.specs.declared.fault.MeaningKind.{MeaningKind}
 use Rattle.script_types.specs.declared.fault.MeaningKind.TheVariants.{BadStackName, DrainPlace, KindMismatch, NameClash, TooMany}
@@ -45,16 +44,15 @@ use Rattle.script_types.specs.declared.typed.UsedAs.TheVariants as used
 use Rattle.script_types.specs.declared.typed.Value.{Value}
 use Rattle.script_types.specs.Checks.{all_of, passed}
 use Rattle.script_types.specs.Lowered.{inputs_of}
-use Rattle.script_types.specs.Meaning.{area_checks, binding_checks, meaning}
-use Rattle.script_types.specs.Names.{binding_of, file_by, first_role, in_roles, is_assigned, is_bad_prefix, is_bound_to_number, is_sample, is_sampled, is_sampled_in}
+use Rattle.script_types.specs.Meaning.{area_checks, binding_checks, is_bad_number, meaning}
+use Rattle.script_types.specs.Names.{binding_of, file_by, first_role, in_roles, is_assigned, is_bad_prefix, is_bound_to_number, is_sample, is_sampled, is_sampled_in, place_from}
 use Rattle.script_types.specs.Reports.{files_read, report_checks}
 use Rattle.map_meaning.specs.Limits.{most_operations, most_stacks}
 use Rattle.script_types.specs.Statements.{all_lines, asked_kind, bound_kind, counts, differs, free_side, is_call, is_dynamic, is_stack_report, kind_above, line_of_side, line_read, line_with, lines_below}
 use Rattle.script_types.specs.Statements.{next_line, operations_of, right_side, scope_at, side_checks, target_checks, told_at, whole_side, with_operation}
 use Rattle.script_types.specs.Table.{stands_of, word_row}
-use Rattle.script_types.specs.Typing.{Scope, assigned_read, bound_read, call_read, input_as, input_checks, name_read, number_as, or_kind, target_read, typed_as}
-use Rattle.script_types.specs.Unbuilt.{calls_unbuilt, has_unbuilt_call, is_drain_kind, is_unbuilt, is_unbuilt_word}
-use Rattle.script_types.specs.inside.Fits.{Ground, fits, is_ids}
+use Rattle.script_types.specs.Typing.{Scope, assigned_read, bound_read, call_read, input_as, input_checks, name_read, number_as, target_read, typed_as}
+use Rattle.script_types.specs.inside.Fits.{Ground, SideFits, fits, is_ids}
 use Rattle.script_types.specs.inside.FitLines.{Frame, LineFits, LinesFit, script_frame}
 use Rattle.script_types.specs.inside.Sound.{are_sound, has_kinds, is_sound}
 use Rattle.script_types.proofs.RowKinds.{both-are}
@@ -62,12 +60,14 @@ use Rattle.script_syntax.specs.Listed.{most_counted}
 use Rattle.script_syntax.specs.WellMade.{IsWellMade, calls_in, has_words, is_name, is_well_made_statement}
 use Rattle.script_types.proofs.Pairwise.{Each, each-append}
 use Rattle.script_types.proofs.FitLemmas.{both-left, both-right}
-use Rattle.script_types.proofs.FitCalls.{AllGood, IsOfWord, call-fits, call-good}
+use Rattle.script_types.proofs.FitCalls.{IsGoodMask, IsGoodWhole, IsOfWord, call-good}
+use Rattle.script_types.proofs.FitOperands.{AllGood}
+use Rattle.script_types.proofs.FitTrees.{call-fits}
 use Rattle.script_types.proofs.FitNodes.{IsGood, IsGoodScope, IsGoodTyped, ground-of, name-good, not-not, number-good, ok-one, passed-is, passed-rest, passed-test, value-before}
 use Rattle.script_types.proofs.FoundInputs.{bound-none, found-input}
-use Rattle.script_types.proofs.FoundRows.{neither-left, neither-right}
+use Rattle.script_types.proofs.FoundRows.{neither-left}
 use Rattle.script_types.proofs.TypedCalls.{operand_as, typed_call, typed_name, typed_number}
-use Rattle.script_types.proofs.UnbuiltLemmas.{calls-call}
+use Rattle.script_types.proofs.TreeCounts.{one-more, one-more-told}
 
 or-left : (a b : Bool) → a ≡ true → (a || b) ≡ true
 or-left true b h = refl
@@ -84,29 +84,38 @@ abbrev pub IsOfExpr : Expr → Typed → Type 0
 IsOfExpr x (typed.Sample ids v) = is_sample x ≡ true
 IsOfExpr x _ = ⊤
 
--- what an expression is at its place fits, and is sampled where it is a time series alone
-pub record IsGoodAt (s : Scope) (inputs : List InputUse) (x : Expr) (role : UsedAs) (t : Typed) : Type 0 where
-  pub good : IsGoodTyped (ground-of s inputs) role t
+-- what an expression is at its place fits, or is a mask where it is a whole right side of `initial`
+abbrev pub IsGoodIn : Ground → Bool → UsedAs → Typed → Type 0
+IsGoodIn g w role t = IsGoodTyped g role t ⊎ ((w ≡ true) × (g.in_steps ≡ false) × IsGoodMask g t)
+
+-- and it is sampled where it is a time series alone
+pub record IsGoodAt (s : Scope) (inputs : List InputUse) (x : Expr) (w : Bool) (role : UsedAs) (t : Typed) : Type 0 where
+  pub good : IsGoodIn (ground-of s inputs) w role t
   pub word : IsOfExpr x t
 
--- whatever an expression without an unbuilt call is at its place fits
+-- whatever an expression is at its place fits
 abbrev GoodAt : Scope → List InputUse → Expr → Type 0
-GoodAt s inputs x = (w : Bool) (role : UsedAs) (t : Typed) → calls_unbuilt x ≡ false → typed_as s x w role ≡ Ok t → IsGoodAt s inputs x role t
+GoodAt s inputs x = (w : Bool) (role : UsedAs) (t : Typed) → typed_as s x w role ≡ Ok t → IsGoodAt s inputs x w role t
+
+-- an operand is no mask
+not-whole : (g : Ground) (role : UsedAs) (t : Typed) → IsGoodIn g false role t → IsGoodTyped g role t
+not-whole g role t (inl h) = h
+not-whole g role t (inr h) = let z = h.0 in cc
 
 -- as many as there were
 pub record AreGoodAll (s : Scope) (inputs : List InputUse) (role : UsedAs) (count : ℕ) (ts : List Typed) : Type 0 where
   pub good : AllGood (ground-of s inputs) role ts
   pub many : length ts ≡ count
 
-operands-good : (s : Scope) (inputs : List InputUse) (es : List ((x : Expr) × GoodAt s inputs x)) (role : UsedAs) (ts : List Typed) → list_any calls_unbuilt (map (λ p. p.0) es) ≡ false → all_of (in_roles role (map (operand_as s) (map (λ p. p.0) es))) ≡ Ok ts → AreGoodAll s inputs role (length (map (λ p. p.0) es)) ts
-operands-good s inputs [] role ts hu h = subst (AreGoodAll s inputs role 0) (ok-one h) (record { good = tt; many = refl })
-operands-good s inputs (p ∷ es) role ts hu h =
+operands-good : (s : Scope) (inputs : List InputUse) (es : List ((x : Expr) × GoodAt s inputs x)) (role : UsedAs) (ts : List Typed) → all_of (in_roles role (map (operand_as s) (map (λ p. p.0) es))) ≡ Ok ts → AreGoodAll s inputs role (length (map (λ p. p.0) es)) ts
+operands-good s inputs [] role ts h = subst (AreGoodAll s inputs role 0) (ok-one h) (record { good = tt; many = refl })
+operands-good s inputs (p ∷ es) role ts h =
     let rest = all_of (in_roles used.Grid (map (operand_as s) (map (λ q. q.0) es))) in
     let b = value-before (operand_as s p.0 role) (λ t. rest >>= λ us. Ok (t ∷ us)) ts h in
     let c = value-before rest (λ us. Ok (b.0 ∷ us)) ts b.2 in
-    let more = operands-good s inputs es used.Grid c.0 (neither-right (calls_unbuilt p.0) (list_any calls_unbuilt (map (λ q. q.0) es)) hu) c.1 in
+    let more = operands-good s inputs es used.Grid c.0 c.1 in
     subst (AreGoodAll s inputs role (length (map (λ q. q.0) (p ∷ es)))) (ok-one c.2) (record {
-      good = ((p.1 false role b.0 (neither-left (calls_unbuilt p.0) (list_any calls_unbuilt (map (λ q. q.0) es)) hu) b.1).good, more.good);
+      good = (not-whole (ground-of s inputs) role b.0 (p.1 false role b.0 b.1).good, more.good);
       many = ap suc more.many;
     })
 
@@ -147,33 +156,40 @@ word-expr word args (typed.Series k n) h = tt
 word-expr word args (typed.Stack k n) h = tt
 word-expr word args (typed.Sample ids v) h = h
 
+in-role : (g : Ground) (w : Bool) (role : UsedAs) (t : Typed) → IsGoodWhole g w t → IsGoodIn g w role t
+in-role g w role t (inl h) = inl (h role)
+in-role g w role t (inr h) = inr h
+
 node-good : (s : Scope) (inputs : List InputUse) → IsGoodScope s inputs → (y : Expr-F ((x : Expr) × GoodAt s inputs x)) → GoodAt s inputs (roll-Expr (map-Expr ((x : Expr) × GoodAt s inputs x) Expr (λ p. p.0) y))
-node-good s inputs hs (Expr-F.Name name) = subst (GoodAt s inputs) (sym (rolls-Name name)) (λ w role t hu h. let r = sym (typed_name s name w role) ∙ h in record { good = name-good s inputs role name t hs r; word = name-word (e.Name name) s role name t r })
-node-good s inputs hs (Expr-F.Number text) = subst (GoodAt s inputs) (sym (rolls-Number text)) (λ w role t hu h. subst (IsGoodAt s inputs (e.Number text) role) (ok-one (sym (typed_number s text w role) ∙ h)) (record { good = tt; word = tt }))
-node-good s inputs hs (Expr-F.Call word es) = subst (GoodAt s inputs) (sym (rolls-Call word (map (λ p. p.0) es))) (λ w role t hu h.
+node-good s inputs hs (Expr-F.Name name) = subst (GoodAt s inputs) (sym (rolls-Name name)) (λ w role t h. let r = sym (typed_name s name w role) ∙ h in record { good = inl (name-good s inputs role name t hs r); word = name-word (e.Name name) s role name t r })
+node-good s inputs hs (Expr-F.Number text) = subst (GoodAt s inputs) (sym (rolls-Number text)) (λ w role t h. subst (IsGoodAt s inputs (e.Number text) w role) (ok-one (sym (typed_number s text w role) ∙ h)) (record { good = inl tt; word = tt }))
+node-good s inputs hs (Expr-F.Call word es) = subst (GoodAt s inputs) (sym (rolls-Call word (map (λ p. p.0) es))) (λ w role t h.
     let args = map (λ p. p.0) es in
-    let unbuilt = sym (calls-call word args) ∙ hu in
     let found = all_of (in_roles (first_role word (length args)) (map (operand_as s) args)) in
     let b = value-before found (λ ts. call_read s.section w word ts) t (sym (typed_call s word args w role) ∙ h) in
-    let all = operands-good s inputs es (first_role word (length args)) b.0 (neither-right (is_unbuilt_word word) (list_any calls_unbuilt args) unbuilt) b.1 in
-    let call = call-good (ground-of s inputs) (first_role word (length args)) s.section w word b.0 t refl (ap (first_role word) (sym all.many)) (neither-left (is_unbuilt_word word) (list_any calls_unbuilt args) unbuilt) all.good b.2 in
-    record { good = call.good role; word = word-expr word args t call.word })
+    let all = operands-good s inputs es (first_role word (length args)) b.0 b.1 in
+    let call = call-good (ground-of s inputs) (first_role word (length args)) s.section w word b.0 t refl (ap (first_role word) (sym all.many)) all.good b.2 in
+    record { good = in-role (ground-of s inputs) w role t call.good; word = word-expr word args t call.word })
 
--- an expression without an unbuilt call
+-- each expression
 pub expression-good : (s : Scope) (inputs : List InputUse) → IsGoodScope s inputs → (x : Expr) → GoodAt s inputs x
 expression-good s inputs hs = ind-Expr (GoodAt s inputs) (λ x y is. subst (λ z. GoodAt s inputs (roll-Expr z)) is (node-good s inputs hs y))
 
 -- ---- right sides
 
--- a right side fits, and where it is sampled it is so in `dynamic` at a map of ids, by a time series
+-- A right side fits, has its kind and keeps to the table. Where it is sampled it is so in `dynamic` at a map of ids, by a time
+-- series, and is no drain map.
 pub record IsGoodSide (g : Ground) (x : Expr) (side : Side) : Type 0 where
-  pub value : IsGood g side.value.tree side.value.kind
+  pub value : SideFits g side.value.tree
+  pub of_kind : (meaning_of side.value.tree).kind ≡ side.value.kind
+  pub sound : is_sound side.value.tree ≡ true
   pub ids : IfSome side.sample (λ ids. is_ids g.inputs ids ≡ true)
   pub in_steps : is_some side.sample ≡ true → g.in_steps ≡ true
   pub word : is_some side.sample ≡ true → is_sample x ≡ true
+  pub plain : is_some side.sample ≡ true → is_kind Ldd side.value.kind ≡ false
 
 whole-good : (g : Ground) (x : Expr) (v : Value) (side : Side) → IsGood g v.tree v.kind → whole_side v ≡ side → IsGoodSide g x side
-whole-good g x v side h k = subst (IsGoodSide g x) k (record { value = h; ids = tt; in_steps = λ q. cc; word = λ q. cc })
+whole-good g x v side h k = subst (IsGoodSide g x) k (record { value = inl h.value; of_kind = h.of_kind; sound = h.sound; ids = tt; in_steps = λ q. cc; word = λ q. cc; plain = λ q. cc })
 
 free-good : (g : Ground) (x : Expr) (asked : Kind) (text : List ℕ) (side : Side) → (free_side asked text >>= λ v. Ok (whole_side v)) ≡ Ok side → IsGoodSide g x side
 free-good g x asked text side h =
@@ -181,22 +197,23 @@ free-good g x asked text side h =
     let b = value-before (passed ((DrainPlace, is_kind Ldd asked) ∷ []) text) (λ t. number_as asked t) a.0 a.1 in
     whole-good g x a.0 side (number-good g asked b.0 a.0 (passed-test (DrainPlace, is_kind Ldd asked) [] text b.0 b.1) b.2).0 (ok-one a.2)
 
-side-good : (g : Ground) (x : Expr) (asked : Kind) (t : Typed) (side : Side) → IsGoodTyped g used.Grid t → IsOfExpr x t → right_side asked t ≡ Ok side → IsGoodSide g x side
-side-good g x asked (typed.Literal text) side ht hw h = free-good g x asked text side h
-side-good g x asked (typed.Constant text) side ht hw h = free-good g x asked text side h
-side-good g x asked (typed.Map u) side ht hw h = whole-good g x u side ht (ok-one h)
-side-good g x asked (typed.Sample ids v) side ht hw h = subst (IsGoodSide g x) (ok-one h) (record { value = ht.0; ids = ht.1; in_steps = λ q. ht.2; word = λ q. hw })
-side-good g x asked (typed.Table kind n) side ht hw h = cc
-side-good g x asked (typed.Series kind n) side ht hw h = cc
-side-good g x asked (typed.Stack kind n) side ht hw h = cc
+mask-good : (g : Ground) (x : Expr) (asked : Kind) (t : Typed) (side : Side) → IsGoodMask g t → right_side asked t ≡ Ok side → IsGoodSide g x side
+mask-good g x asked t side m h = subst (IsGoodSide g x) (ok-one (ap (right_side asked) m.is ∙ h)) (record { value = inr m.mask; of_kind = m.of_kind; sound = m.sound; ids = tt; in_steps = λ q. cc; word = λ q. cc; plain = λ q. cc })
+
+typed-good : (g : Ground) (x : Expr) (asked : Kind) (t : Typed) (side : Side) → IsGoodTyped g used.Grid t → IsOfExpr x t → right_side asked t ≡ Ok side → IsGoodSide g x side
+typed-good g x asked (typed.Literal text) side ht hw h = free-good g x asked text side h
+typed-good g x asked (typed.Constant text) side ht hw h = free-good g x asked text side h
+typed-good g x asked (typed.Map u) side ht hw h = whole-good g x u side ht (ok-one h)
+typed-good g x asked (typed.Sample ids v) side ht hw h = subst (IsGoodSide g x) (ok-one h) (record { value = inl ht.0.value; of_kind = ht.0.of_kind; sound = ht.0.sound; ids = ht.1; in_steps = λ q. ht.2; word = λ q. hw; plain = λ q. ht.3 })
+typed-good g x asked (typed.Table kind n) side ht hw h = cc
+typed-good g x asked (typed.Series kind n) side ht hw h = cc
+typed-good g x asked (typed.Stack kind n) side ht hw h = cc
+
+side-good : (g : Ground) (x : Expr) (asked : Kind) (t : Typed) (side : Side) → IsGoodIn g true used.Grid t → IsOfExpr x t → right_side asked t ≡ Ok side → IsGoodSide g x side
+side-good g x asked t side (inl ht) hw h = typed-good g x asked t side ht hw h
+side-good g x asked t side (inr ht) hw h = mask-good g x asked t side ht.2 h
 
 -- ---- statements
-
-count-call : (k : Kind) (o : Op) (args : List Tree) → operations_of (tree.Call k o args) ≡ operations_in (map meaning_of args) + 1
-count-call k o args = ap (λ m. m.operations) (meaning_of-Call k o args)
-
-count-look-up : (k : Kind) (o : Op) (file : ℕ) (args : List Tree) → operations_of (tree.LookUp k o file args) ≡ operations_in (map meaning_of args) + 1
-count-look-up k o file args = ap (λ m. m.operations) (meaning_of-LookUp k o file args)
 
 node-counts : (x : Tree-F Tree) → is_call (roll-Tree x) ≡ true → 0 < operations_of (roll-Tree x)
 node-counts (Tree-F.Number k c) h = let z = sym (ap is_call (tree.rolls-Number k c)) ∙ h in cc
@@ -204,16 +221,19 @@ node-counts Tree-F.Time h = let z = sym (ap is_call tree.rolls-Time) ∙ h in cc
 node-counts (Tree-F.Input k n) h = let z = sym (ap is_call (tree.rolls-Input k n)) ∙ h in cc
 node-counts (Tree-F.Stack k n) h = let z = sym (ap is_call (tree.rolls-Stack k n)) ∙ h in cc
 node-counts (Tree-F.Name k name) h = let z = sym (ap is_call (tree.rolls-Name k name)) ∙ h in cc
-node-counts (Tree-F.Call k o args) h = let c = ap operations_of (tree.rolls-Call k o args) ∙ count-call k o args in omega (arith, c)
-node-counts (Tree-F.LookUp k o file args) h = let c = ap operations_of (tree.rolls-LookUp k o file args) ∙ count-look-up k o file args in omega (arith, c)
+node-counts (Tree-F.Call k o args) h = let c = ap operations_of (tree.rolls-Call k o args) ∙ one-more k o args in omega (arith, c)
+node-counts (Tree-F.CallWith k o file window args) h = let c = ap operations_of (tree.rolls-CallWith k o file window args) ∙ one-more-told k o file window args in omega (arith, c)
+node-counts (Tree-F.Mask args) h = let z = sym (ap is_call (tree.rolls-Mask args)) ∙ h in cc
 
 call-counts : (t : Tree) → is_call t ≡ true → 0 < operations_of t
 call-counts = ind-Tree (λ t. is_call t ≡ true → 0 < operations_of t) (λ x y is. node-counts x)
 
--- a right side fits, has the kind, and has an operation unless it is sampled
+-- a right side fits, has the kind, keeps to the table, and has an operation unless it is sampled or a drain map
 pub record HasValue (g : Ground) (sampled : Bool) (t : Tree) (kind : Kind) : Type 0 where
-  pub good : IsGood g t kind
-  pub operation : sampled ≡ false → 0 < operations_of t
+  pub value : SideFits g t
+  pub of_kind : (meaning_of t).kind ≡ kind
+  pub sound : is_sound t ≡ true
+  pub operation : sampled ≡ false → is_kind Ldd kind ≡ false → 0 < operations_of t
 
 -- a copy keeps to the table where it is of no drain map
 copy-kinds : (kind : Kind) → is_kind Ldd kind ≡ false → has_kinds (row_of CopyOf) (kind ∷ []) kind ≡ true
@@ -225,14 +245,22 @@ copy-kinds Scalar h = refl
 copy-kinds Directional h = refl
 copy-kinds Ldd h = cc
 
-with-good : (g : Ground) (sampled : Bool) (t : Tree) (kind : Kind) → IsGood g t kind → HasValue g sampled (with_operation sampled kind t) kind
-with-good g sampled t kind h = by-test (is_call t) (is_kind Ldd kind) sampled refl h.plain
+-- a right side that is no drain map is an expression that fits
+side-plain : (g : Ground) (t : Tree) (kind : Kind) → SideFits g t → (meaning_of t).kind ≡ kind → is_kind Ldd kind ≡ false → fits g t ≡ true
+side-plain g t kind (inl h) hk hl = h
+side-plain g t kind (inr m) hk hl = let e : Ldd ≡ kind = sym (ap (λ u. (meaning_of u).kind) m.is ∙ ap (λ n. n.kind) (meaning_of-Mask m.operands)) ∙ hk in let z = ap (is_kind Ldd) e ∙ hl in cc
+
+with-good : (g : Ground) (sampled : Bool) (t : Tree) (kind : Kind) → SideFits g t → (meaning_of t).kind ≡ kind → is_sound t ≡ true → HasValue g sampled (with_operation sampled kind t) kind
+with-good g sampled t kind h hk hs = by-test (is_call t) (is_kind Ldd kind) sampled refl refl
   where
-    by-test : (c l d : Bool) → is_call t ≡ c → l ≡ false → HasValue g d (if c || l || d then t else tree.Call kind CopyOf (t ∷ [])) kind
-    by-test true l d hc hl = record { good = h; operation = λ q. call-counts t hc }
-    by-test false true d hc hl = cc
-    by-test false false true hc hl = record { good = h; operation = λ q. cc }
-    by-test false false false hc hl = let c = count-call kind CopyOf (t ∷ []) in record { good = call-fits g kind CopyOf (t ∷ []) (both-are (fits g t) true h.value refl) (both-are (is_sound t) true h.sound refl) refl (ap (λ k. has_kinds (row_of CopyOf) (k ∷ []) kind) h.of_kind ∙ copy-kinds kind h.plain) h.plain; operation = λ q. omega (arith, c) }
+    by-test : (c l d : Bool) → is_call t ≡ c → is_kind Ldd kind ≡ l → HasValue g d (if c || l || d then t else tree.Call kind CopyOf (t ∷ [])) kind
+    by-test true l d hc hl = record { value = h; of_kind = hk; sound = hs; operation = λ q r. call-counts t hc }
+    by-test false true d hc hl = record { value = h; of_kind = hk; sound = hs; operation = λ q r. let z = sym hl ∙ r in cc }
+    by-test false false true hc hl = record { value = h; of_kind = hk; sound = hs; operation = λ q r. cc }
+    by-test false false false hc hl =
+        let c = one-more kind CopyOf (t ∷ []) in
+        let copy = call-fits g kind CopyOf (t ∷ []) (both-are (fits g t) true (side-plain g t kind h hk hl) refl) (both-are (is_sound t) true hs refl) refl (ap (λ k. has_kinds (row_of CopyOf) (k ∷ []) kind) hk ∙ copy-kinds kind hl) hl in
+        record { value = inl copy.value; of_kind = copy.of_kind; sound = copy.sound; operation = λ q r. omega (arith, c) }
 
 -- what the tests of a target leave: it has no other kind, a stack that is written has a prefix, and no limit is passed
 pub record HasPassed (s : Scope) (before : ℕ) (st : Statement) (sampled : Bool) (kind : Kind) (t : Tree) : Type 0 where
@@ -279,6 +307,7 @@ pub record IsLineOf (s : Scope) (before : ℕ) (st : Statement) (l : Line) : Typ
   pub side : Side
   pub sided : right_side (asked_kind (s.above st.name) (bound_kind (s.binding st.name))) typed_is ≡ Ok side
   pub is : l ≡ line-of s st side
+  pub drain : (is_dynamic s.section && is_kind Ldd side.value.kind) ≡ false
   pub passed : HasPassed s before st (is_some side.sample) side.value.kind (whole-of side)
 
 -- the target of a statement with this right side passes
@@ -287,6 +316,13 @@ target-passes s before st side l h =
     let next : Tree → Result Line MeaningKind = λ t. passed (target_checks s before st (is_some side.sample) side.value.kind t) (line_with s.section st side.sample side.value.kind t) in
     let d = value-before (passed (side_checks s.section side.value.kind) (whole-of side)) next l h in
     ap next (passed-is (side_checks s.section side.value.kind) (whole-of side) d.0 d.1) ∙ d.2
+
+-- and it is a drain map in `initial` alone
+drain-passes : (s : Scope) (before : ℕ) (st : Statement) (side : Side) (l : Line) → line_of_side s before st side ≡ Ok l → (is_dynamic s.section && is_kind Ldd side.value.kind) ≡ false
+drain-passes s before st side l h =
+    let next : Tree → Result Line MeaningKind = λ t. passed (target_checks s before st (is_some side.sample) side.value.kind t) (line_with s.section st side.sample side.value.kind t) in
+    let d = value-before (passed (side_checks s.section side.value.kind) (whole-of side)) next l h in
+    passed-test (DrainPlace, is_dynamic s.section && is_kind Ldd side.value.kind) [] (whole-of side) d.0 d.1
 
 -- a statement without a fault
 pub line-parts : (s : Scope) (before : ℕ) (st : Statement) (l : Line) → line_read s before st ≡ Ok l → IsLineOf s before st l
@@ -302,13 +338,13 @@ line-parts s before st l h =
       side = c.0;
       sided = c.1;
       is = sym (passed-is (target_checks s before st (is_some c.0.sample) c.0.value.kind (whole-of c.0)) (line-of s st c.0) l target);
+      drain = drain-passes s before st c.0 l c.2;
       passed = has-passed s before st (is_some c.0.sample) c.0.value.kind (whole-of c.0) (line-of s st c.0) l target;
     }
 
--- a settled line fits, and has no drain map
+-- a settled line fits, and keeps to the table
 pub record IsGoodLine (script : Script) (above : List Line) (l : Line) : Type 0 where
   pub fits : LineFits (script_frame script) above l
-  pub plain : is_kind Ldd l.kind ≡ false
   pub sound : is_sound l.statement.value ≡ true
 
 agrees-some : (o : Option Kind) (kind : Kind) → differs o kind ≡ false → IfSome o (λ k. k ≡ kind)
@@ -322,55 +358,60 @@ in-dynamic Dynamic h = refl
 none-sampled : {A : Type 0} (o : Option A) → o ≡ None → is_some o ≡ false
 none-sampled o h = ap is_some h
 
--- a statement without an unbuilt call
-line-good : (script : Script) (section : Section) (above : List Line) (before : ℕ) (st : Statement) (l : Line) → IsGoodScope (scope_at script section above) (inputs_of script) → calls_unbuilt st.expr ≡ false → (is_sample st.expr ≡ true → is_sampled script st.name ≡ true) → line_read (scope_at script section above) before st ≡ Ok l → IsGoodLine script above l
-line-good script section above before st l hs hu hd h =
+in-initial : (section : Section) (drain : Bool) → (is_dynamic section && drain) ≡ false → drain ≡ true → section ≡ Initial
+in-initial Initial drain h k = refl
+in-initial Dynamic drain h k = let z = sym h ∙ k in cc
+
+no-sample : (o : Option ℕ) (drain : Bool) → (is_some o ≡ true → drain ≡ false) → drain ≡ true → o ≡ None
+no-sample None drain h k = refl
+no-sample (Some ids) drain h k = let z = sym (h refl) ∙ k in cc
+
+-- a statement
+line-good : (script : Script) (section : Section) (above : List Line) (before : ℕ) (st : Statement) (l : Line) → IsGoodScope (scope_at script section above) (inputs_of script) → (is_sample st.expr ≡ true → is_sampled script st.name ≡ true) → line_read (scope_at script section above) before st ≡ Ok l → IsGoodLine script above l
+line-good script section above before st l hs hd h =
     let s = scope_at script section above in
     let g = ground-of s (inputs_of script) in
     let p = line-parts s before st l h in
-    let at = expression-good s (inputs_of script) hs st.expr true used.Grid p.typed_is hu p.typed in
+    let at = expression-good s (inputs_of script) hs st.expr true used.Grid p.typed_is p.typed in
     let side = side-good g st.expr (asked_kind (s.above st.name) (bound_kind (s.binding st.name))) p.typed_is p.side at.good at.word p.sided in
-    let w = with-good g (is_some p.side.sample) p.side.value.tree p.side.value.kind side.value in
+    let w = with-good g (is_some p.side.sample) p.side.value.tree p.side.value.kind side.value side.of_kind side.sound in
     subst (IsGoodLine script above) (sym p.is) (record {
       fits = record {
-        value = w.good.value;
-        kind = w.good.of_kind;
+        value = w.value;
+        kind = w.of_kind;
         agrees = agrees-some (kind_above above st.name) p.side.value.kind p.passed.agrees;
-        operation = λ q. w.operation (none-sampled p.side.sample q);
+        operation = λ q r. w.operation (none-sampled p.side.sample q) r;
+        drain = λ q. (in-initial section (is_kind Ldd p.side.value.kind) p.drain q, no-sample p.side.sample (is_kind Ldd p.side.value.kind) side.plain q);
         ids = side.ids;
         sampled = λ q. hd (side.word q);
         in_steps = λ q. in-dynamic section (side.in_steps q);
       };
-      plain = w.good.plain;
-      sound = w.good.sound;
+      sound = w.sound;
     })
 
 -- ---- all statements
 
--- no statement has a drain map, and each keeps to the table
-abbrev is-plain-line : Line → Bool
-is-plain-line l = not (is_kind Ldd l.kind) && is_sound l.statement.value
+-- a binding is a number at fault
+abbrev pub is-bad : Binding → Bool
+is-bad b = is_bad_number b.target b.kind
 
-abbrev NoDrains : List Line → Type 0
-NoDrains lines = list_all is-plain-line lines ≡ true
+neither-are : (a b : Bool) → a ≡ false → b ≡ false → (a || b) ≡ false
+neither-are false b ha hb = hb
+neither-are true b ha hb = cc
 
-above-plain : (lines : List Line) (name : List ℕ) (k : Kind) → NoDrains lines → kind_above lines name ≡ Some k → is_kind Ldd k ≡ false
-above-plain [] name k hd h = cc
-above-plain (l ∷ ls) name k hd h = by-later (kind_above ls name) (bytes_eq name l.statement.target) (above-plain ls name k (both-right (is-plain-line l) (list_all is-plain-line ls) hd)) (not-true (is_kind Ldd l.kind) (both-left (not (is_kind Ldd l.kind)) (is_sound l.statement.value) (both-left (is-plain-line l) (list_all is-plain-line ls) hd))) h
-  where
-    not-true : (b : Bool) → not b ≡ true → b ≡ false
-    not-true false g = refl
-    not-true true g = cc
+-- where the tests of the bindings pass there is none
+none-bad : {A : Type 0} (before bs : List Binding) (x y : A) → passed (binding_checks before bs) x ≡ Ok y → list_any is-bad bs ≡ false
+none-bad before [] x y h = refl
+none-bad before (b ∷ bs) x y h =
+    let clash : MeaningFault × Bool = (record { at = place.Binding (length before + 1); kind = NameClash }, is_some (place_from 0 before b.name)) in
+    let bad : MeaningFault × Bool = (record { at = place.Binding (length before + 1); kind = KindMismatch }, is-bad b) in
+    let rest = binding_checks (before ++ b ∷ []) bs in
+    let later = passed-rest clash (bad ∷ rest) x y h in
+    neither-are (is-bad b) (list_any is-bad bs) (passed-test bad rest x y later) (none-bad (before ++ b ∷ []) bs x y (passed-rest bad rest x y later))
 
-    by-later : (later : Option Kind) (t : Bool) → (later ≡ Some k → is_kind Ldd k ≡ false) → is_kind Ldd l.kind ≡ false → or_kind later (if t then Some l.kind else None) ≡ Some k → is_kind Ldd k ≡ false
-    by-later (Some x) t ih hl g = ih g
-    by-later None true ih hl g = let z : l.kind ≡ k = cc in sym (ap (is_kind Ldd) z) ∙ hl
-    by-later None false ih hl g = cc
-
-scope-good : (script : Script) (section : Section) (lines : List Line) → list_any (λ b. is_drain_kind b.kind) script.bindings ≡ false → NoDrains lines → IsGoodScope (scope_at script section lines) (inputs_of script)
-scope-good script section lines hb hd = record {
-  above = λ name k h. above-plain lines name k hd h;
-  bound = λ name b h. bound-none (λ c. is_drain_kind c.kind) script name b hb h;
+scope-good : (script : Script) (section : Section) (lines : List Line) → list_any is-bad script.bindings ≡ false → IsGoodScope (scope_at script section lines) (inputs_of script)
+scope-good script section lines hb = record {
+  number = λ name b h. bound-none is-bad script name b hb h;
   input = λ name b file role hn ht ha hr. found-input script name b file role hn ht ha hr;
 }
 
@@ -378,15 +419,15 @@ pub told-ok : (at : Place) (r : Result Line MeaningKind) (l : Line) → told_at 
 told-ok at (Ok m) l h = let e : m ≡ l = cc in ap (λ z. Ok z) e
 told-ok at (Err f) l h = cc
 
--- these lines follow on those, and fit
+-- these lines follow on those, fit, and keep to the table
 pub record Follow (script : Script) (above lines : List Line) : Type 0 where
   pub rest : List Line
   pub split : lines ≡ above ++ rest
   pub fit : LinesFit (script_frame script) above rest
-  pub plain : NoDrains lines
+  pub sound : are_sound lines ≡ true
 
-plain-more : (script : Script) (lines : List Line) (l : Line) → NoDrains lines → IsGoodLine script lines l → NoDrains (lines ++ l ∷ [])
-plain-more script lines l hd h = list_all-append is-plain-line lines (l ∷ []) ∙ both-are (list_all is-plain-line lines) (is-plain-line l && true) hd (both-are (is-plain-line l) true (both-are (not (is_kind Ldd l.kind)) (is_sound l.statement.value) (ap not h.plain) h.sound) refl)
+sound-more : (lines : List Line) (l : Line) → are_sound lines ≡ true → is_sound l.statement.value ≡ true → are_sound (lines ++ l ∷ []) ≡ true
+sound-more lines l hs h = list_all-append (λ (x : Line). is_sound x.statement.value) lines (l ∷ []) ∙ both-are (are_sound lines) (is_sound l.statement.value && true) hs (both-are (is_sound l.statement.value) true h refl)
 
 sampled-here : (s : Statement) (ss : List Statement) → is_sample s.expr ≡ true → is_sampled_in (s ∷ ss) s.name ≡ true
 sampled-here s ss h = ap (λ b. b && is_sample s.expr || is_sampled_in ss s.name) ((bytes_eq-Decides s.name s.name).1 refl) ∙ ap (λ b. b || is_sampled_in ss s.name) h
@@ -394,51 +435,30 @@ sampled-here s ss h = ap (λ b. b && is_sample s.expr || is_sampled_in ss s.name
 sampled-later : (s : Statement) (ss : List Statement) (name : List ℕ) → is_sampled_in ss name ≡ true → is_sampled_in (s ∷ ss) name ≡ true
 sampled-later s ss name h = or-right (bytes_eq name s.name && is_sample s.expr) (is_sampled_in ss name) h
 
-follow-on : (script : Script) (section : Section) (above lines : List Line) (ss : List Statement) → list_any (λ b. is_drain_kind b.kind) script.bindings ≡ false → has_unbuilt_call ss ≡ false → ((name : List ℕ) → is_sampled_in ss name ≡ true → is_sampled script name ≡ true) → NoDrains above → lines_below script section above ss ≡ Ok lines → Follow script above lines
-follow-on script section above lines [] hb hu hm hd h = let z : above ≡ lines = cc in record { rest = []; split = sym z ∙ sym (append-nil above); fit = tt; plain = ap (list_all is-plain-line) (sym z) ∙ hd }
-follow-on script section above lines (s ∷ ss) hb hu hm hd h =
+follow-on : (script : Script) (section : Section) (above lines : List Line) (ss : List Statement) → list_any is-bad script.bindings ≡ false → ((name : List ℕ) → is_sampled_in ss name ≡ true → is_sampled script name ≡ true) → are_sound above ≡ true → lines_below script section above ss ≡ Ok lines → Follow script above lines
+follow-on script section above lines [] hb hm hs h = let z : above ≡ lines = cc in record { rest = []; split = sym z ∙ sym (append-nil above); fit = tt; sound = ap are_sound (sym z) ∙ hs }
+follow-on script section above lines (s ∷ ss) hb hm hs h =
     let b = value-before (next_line script section above s) (λ l. lines_below script section (above ++ l ∷ []) ss) lines h in
     let read = told-ok (place.Statement (length above + 1)) (line_read (scope_at script section above) (counts section above) s) b.0 b.1 in
-    let good = line-good script section above (counts section above) s b.0 (scope-good script section above hb hd) (neither-left (calls_unbuilt s.expr) (has_unbuilt_call ss) hu) (λ q. hm s.name (sampled-here s ss q)) read in
-    let i = follow-on script section (above ++ b.0 ∷ []) lines ss hb (neither-right (calls_unbuilt s.expr) (has_unbuilt_call ss) hu) (λ name q. hm name (sampled-later s ss name q)) (plain-more script above b.0 hd good) b.2 in
-    record { rest = b.0 ∷ i.rest; split = i.split ∙ append_assoc above (b.0 ∷ []) i.rest; fit = (good.fits, i.fit); plain = i.plain }
+    let good = line-good script section above (counts section above) s b.0 (scope-good script section above hb) (λ q. hm s.name (sampled-here s ss q)) read in
+    let i = follow-on script section (above ++ b.0 ∷ []) lines ss hb (λ name q. hm name (sampled-later s ss name q)) (sound-more above b.0 hs good.sound) b.2 in
+    record { rest = b.0 ∷ i.rest; split = i.split ∙ append_assoc above (b.0 ∷ []) i.rest; fit = (good.fits, i.fit); sound = i.sound }
 
 fit-append : (frame : Frame) (above xs ys : List Line) → LinesFit frame above xs → LinesFit frame (above ++ xs) ys → LinesFit frame above (xs ++ ys)
 fit-append frame above [] ys hx hy = subst (λ a. LinesFit frame a ys) (append-nil above) hy
 fit-append frame above (x ∷ xs) ys hx hy = (hx.0, fit-append frame (above ++ x ∷ []) xs ys hx.1 (subst (λ a. LinesFit frame a ys) (sym (append_assoc above (x ∷ []) xs)) hy))
-
-sound-of : (lines : List Line) → NoDrains lines → are_sound lines ≡ true
-sound-of [] h = refl
-sound-of (l ∷ ls) h = both-are (is_sound l.statement.value) (are_sound ls) (both-right (not (is_kind Ldd l.kind)) (is_sound l.statement.value) (both-left (is-plain-line l) (list_all is-plain-line ls) h)) (sound-of ls (both-right (is-plain-line l) (list_all is-plain-line ls) h))
 
 -- the statements fit, and keep to the table
 record AreGood (script : Script) (lines : List Line) : Type 0 where
   fit : LinesFit (script_frame script) [] lines
   sound : are_sound lines ≡ true
 
--- what a script that is built has none of
-pub record IsBuilt (script : Script) : Type 0 where
-  pub bindings : list_any (λ b. is_drain_kind b.kind) script.bindings ≡ false
-  pub in_initial : has_unbuilt_call script.initial ≡ false
-  pub in_dynamic : has_unbuilt_call script.dynamic ≡ false
-
-pub built-parts : (script : Script) → is_unbuilt script ≡ false → IsBuilt script
-built-parts script hu =
-    let bindings = list_any (λ b. is_drain_kind b.kind) script.bindings in
-    let first = neither-left (bindings || has_unbuilt_call script.initial) (has_unbuilt_call script.dynamic) hu in
-    record {
-      bindings = neither-left bindings (has_unbuilt_call script.initial) first;
-      in_initial = neither-right bindings (has_unbuilt_call script.initial) first;
-      in_dynamic = neither-right (bindings || has_unbuilt_call script.initial) (has_unbuilt_call script.dynamic) hu;
-    }
-
-all-fit : (script : Script) (lines : List Line) → is_unbuilt script ≡ false → all_lines script ≡ Ok lines → AreGood script lines
-all-fit script lines hu h =
-    let built = built-parts script hu in
+all-fit : (script : Script) (lines : List Line) → list_any is-bad script.bindings ≡ false → all_lines script ≡ Ok lines → AreGood script lines
+all-fit script lines hb h =
     let b = value-before (lines_below script Initial [] script.initial) (λ ls. lines_below script Dynamic ls script.dynamic) lines h in
-    let i = follow-on script Initial [] b.0 script.initial built.bindings built.in_initial (λ name q. or-left (is_sampled_in script.initial name) (is_sampled_in script.dynamic name) q) refl b.1 in
-    let j = follow-on script Dynamic b.0 lines script.dynamic built.bindings built.in_dynamic (λ name q. or-right (is_sampled_in script.initial name) (is_sampled_in script.dynamic name) q) i.plain b.2 in
-    record { sound = sound-of lines j.plain; fit = subst (LinesFit (script_frame script) []) (ap (λ x. x ++ j.rest) (sym i.split) ∙ sym j.split) (fit-append (script_frame script) [] i.rest j.rest i.fit (subst (λ a. LinesFit (script_frame script) a j.rest) i.split j.fit)) }
+    let i = follow-on script Initial [] b.0 script.initial hb (λ name q. or-left (is_sampled_in script.initial name) (is_sampled_in script.dynamic name) q) refl b.1 in
+    let j = follow-on script Dynamic b.0 lines script.dynamic hb (λ name q. or-right (is_sampled_in script.initial name) (is_sampled_in script.dynamic name) q) i.sound b.2 in
+    record { sound = j.sound; fit = subst (LinesFit (script_frame script) []) (ap (λ x. x ++ j.rest) (sym i.split) ∙ sym j.split) (fit-append (script_frame script) [] i.rest j.rest i.fit (subst (λ a. LinesFit (script_frame script) a j.rest) i.split j.fit)) }
 
 -- what a script without a fault has: its statements, and an area map that is no number and no binding that is assigned
 pub record HasLines (script : Script) (lines : List Line) : Type 0 where
@@ -474,13 +494,13 @@ has-lines script lines h =
     parts-of script b.0 c.0 lines d.0 b.1 (passed-is (binding_checks [] script.bindings) script b.0 b.1) c.1 d.1
     (passed-is (report_checks c.0.steps (binding_of c.0) (files_read c.0) 0 d.0) d.0 lines d.2)
 
--- the settled statements of a script that is built fit where they stand
-pub lines-fit : (script : Script) (lines : List Line) → is_unbuilt script ≡ false → meaning script ≡ Ok lines → LinesFit (script_frame script) [] lines
-lines-fit script lines hu h = (all-fit script lines hu (has-lines script lines h).all).fit
+-- the settled statements of a script fit where they stand
+pub lines-fit : (script : Script) (lines : List Line) → meaning script ≡ Ok lines → LinesFit (script_frame script) [] lines
+lines-fit script lines h = let has = has-lines script lines h in (all-fit script lines (none-bad [] script.bindings script has.bound_is has.bound) has.all).fit
 
 -- and keep to the table
-pub lines-sound : (script : Script) (lines : List Line) → is_unbuilt script ≡ false → meaning script ≡ Ok lines → are_sound lines ≡ true
-lines-sound script lines hu h = (all-fit script lines hu (has-lines script lines h).all).sound
+pub lines-sound : (script : Script) (lines : List Line) → meaning script ≡ Ok lines → are_sound lines ≡ true
+lines-sound script lines h = let has = has-lines script lines h in (all-fit script lines (none-bad [] script.bindings script has.bound_is has.bound) has.all).sound
 
 -- ---- the names that are assigned
 

@@ -1,7 +1,7 @@
 -- What the inputs of a script without a fault have: roles that suit, prefixes of stacks, and an area map that is a grid.
 use Rattle.std.proofs.Common.{◌≡◌, ◌≢◌, ℕ, ◌+◌, Bool, true, false, not, ◌&&◌, List, [], ◌∷◌, ◌++◌, map, filter, length, refl, sym, ap, subst, ◌∙◌, Ok, if◌then◌else◌, arith}
 use Rattle.std.specs.Prelude.{Option, None, Some, slice_get}
-use Rattle.std.specs.List.{find, list_any}
+use Rattle.std.specs.List.{find}
 use Rattle.std.specs.Option.{is_some, unwrap_or}
 use Rattle.std.specs.Str.{bytes_eq}
 use Rattle.std.proofs.lemmas.Slice.Eq.{bytes_eq-Decides}
@@ -12,8 +12,9 @@ use Rattle.script_syntax.specs.declared.tree.Script.{Script}
 use Rattle.script_syntax.specs.declared.tree.Target.{Target}
 use Rattle.script_syntax.specs.declared.tree.Target.TheVariants as target
 use Rattle.map_meaning.specs.declared.program.InputUse.{InputUse}
+use Rattle.map_meaning.specs.declared.program.Program.{Program}
 use Rattle.map_meaning.specs.declared.program.Role.TheVariants.{Grid}
-use Rattle.map_meaning.specs.Programs.{SuitsRole, is_stack_role}
+use Rattle.map_meaning.specs.Programs.{IsInput, SuitsRole, is_stack_role}
 use Rattle.map_meaning.specs.Table.{is_kind}
 use Rattle.script_types.specs.declared.fault.MeaningFault.{MeaningFault}
 use Rattle.script_types.specs.declared.fault.MeaningKind.TheVariants.{KindMismatch, NameClash}
@@ -26,13 +27,12 @@ use Rattle.script_types.specs.Lowered.{area_number, grid_input, input_as_used, u
 use Rattle.script_types.specs.Meaning.{binding_checks, is_bad_number, meaning}
 use Rattle.script_types.specs.Names.{binding_of, inputs_before, is_assigned, is_bad_prefix, is_bound_to_number, is_input_by, is_number_target, is_stack, is_used, place_from, role_of, script_uses, statements_uses, target_file, used_inputs}
 use Rattle.script_types.specs.Reports.{area_files}
-use Rattle.script_types.specs.Unbuilt.{is_drain_kind, is_unbuilt}
-use Rattle.script_types.proofs.FitLemmas.{both-left, both-right}
-use Rattle.script_types.proofs.FitNodes.{not-true, passed-rest, passed-test, some-kind}
+use Rattle.script_types.proofs.FitLemmas.{both-left, both-right, not-true}
+use Rattle.script_types.proofs.FitNodes.{passed-rest, passed-test}
 use Rattle.script_types.proofs.FoundInputs.{bound-first, found-input}
-use Rattle.script_types.proofs.FoundRows.{neither-left, neither-right}
+use Rattle.script_types.proofs.InputForms.{there-input}
 use Rattle.script_types.proofs.Pairwise.{Each, Pairs, each-append, each-map, each-weaken}
-use Rattle.script_types.proofs.SettledFits.{HasLines, built-parts, has-lines}
+use Rattle.script_types.proofs.SettledFits.{HasLines, has-lines}
 use Rattle.script_types.proofs.SettledUses.{IsReadIn, SuitsUse, first-use, script-read}
 
 -- ---- each of a list
@@ -58,10 +58,6 @@ kept-each P p false x rest hb hx h = h
 pub each-filter : {A : Type 0} (P : A → Type 0) (p : A → Bool) (xs : List A) → Each P xs → Each (λ x. P x × (p x ≡ true)) (filter p xs)
 each-filter P p [] h = tt
 each-filter P p (x ∷ xs) h = kept-each P p (p x) x (filter p xs) refl h.0 (each-filter P p xs h.1)
-
-pub each-none : {A : Type 0} (p : A → Bool) (xs : List A) → list_any p xs ≡ false → Each (λ x. p x ≡ false) xs
-each-none p [] h = tt
-each-none p (x ∷ xs) h = (neither-left (p x) (list_any p xs) h, each-none p xs (neither-right (p x) (list_any p xs) h))
 
 -- ---- bindings have different names
 
@@ -115,7 +111,6 @@ bound-itself script h = each-weaken (λ (b : Binding). find (λ (c : Binding). b
 -- what a binding that is an input has
 pub record IsUsedInput (script : Script) (b : Binding) : Type 0 where
   pub bound : binding_of script b.name ≡ Some b
-  pub plain : is_drain_kind b.kind ≡ false
   pub file : List ℕ
   pub file_is : b.target ≡ target.File file
   pub free : is_assigned script b.name ≡ false
@@ -124,20 +119,17 @@ file-is : (to : Target) → is_number_target to ≡ false → (file : List ℕ) 
 file-is (target.File file) h = (file, refl)
 file-is (target.Number text) h = cc
 
-used-input : (script : Script) (b : Binding) → binding_of script b.name ≡ Some b → is_drain_kind b.kind ≡ false → is_input_by (is_assigned script) (is_used script) b ≡ true → IsUsedInput script b
-used-input script b hb hk h =
+used-input : (script : Script) (b : Binding) → binding_of script b.name ≡ Some b → is_input_by (is_assigned script) (is_used script) b ≡ true → IsUsedInput script b
+used-input script b hb h =
     let two = both-left (not (is_number_target b.target) && not (is_assigned script b.name)) (is_used script b.name) h in
     let f = file-is b.target (not-true (is_number_target b.target) (both-left (not (is_number_target b.target)) (not (is_assigned script b.name)) two)) in
-    record { bound = hb; plain = hk; file = f.0; file_is = f.1; free = not-true (is_assigned script b.name) (both-right (not (is_number_target b.target)) (not (is_assigned script b.name)) two) }
+    record { bound = hb; file = f.0; file_is = f.1; free = not-true (is_assigned script b.name) (both-right (not (is_number_target b.target)) (not (is_assigned script b.name)) two) }
 
-pub used-inputs : (script : Script) (lines : List Line) → is_unbuilt script ≡ false → HasLines script lines → Each (IsUsedInput script) (used_inputs script)
-used-inputs script lines hu h =
-    let own = bound-itself script (bindings-apart script lines h) in
-    let plain = each-none (λ (b : Binding). is_drain_kind b.kind) script.bindings (built-parts script hu).bindings in
-    let both = each-both (λ (b : Binding). binding_of script b.name ≡ Some b) (λ (b : Binding). is_drain_kind b.kind ≡ false) script.bindings own plain in
-    each-weaken (λ (b : Binding). ((binding_of script b.name ≡ Some b) × (is_drain_kind b.kind ≡ false)) × (is_input_by (is_assigned script) (is_used script) b ≡ true)) (IsUsedInput script) (used_inputs script)
-    (λ b k. used-input script b k.0.0 k.0.1 k.1)
-    (each-filter (λ (b : Binding). (binding_of script b.name ≡ Some b) × (is_drain_kind b.kind ≡ false)) (is_input_by (is_assigned script) (is_used script)) script.bindings both)
+pub used-inputs : (script : Script) (lines : List Line) → HasLines script lines → Each (IsUsedInput script) (used_inputs script)
+used-inputs script lines h =
+    each-weaken (λ (b : Binding). (binding_of script b.name ≡ Some b) × (is_input_by (is_assigned script) (is_used script) b ≡ true)) (IsUsedInput script) (used_inputs script)
+    (λ b k. used-input script b k.0 k.1)
+    (each-filter (λ (b : Binding). binding_of script b.name ≡ Some b) (is_input_by (is_assigned script) (is_used script)) script.bindings (bound-itself script (bindings-apart script lines h)))
 
 -- the kind is no drain map's
 no-ldd : (kind : Kind) → is_kind Ldd kind ≡ false → kind ≢ Ldd
@@ -146,9 +138,9 @@ no-ldd kind h = λ e. true-false (sym (ap (is_kind Ldd) e) ∙ h)
     true-false : true ≡ false → ⊥
     true-false z = grind (arith, z)
 
-suits-role : (role : UsedAs) (given : Option Kind) → is_drain_kind given ≡ false → SuitsUse role → SuitsRole (used_kind role given) (input_role role)
+suits-role : (role : UsedAs) (given : Option Kind) → (is_stack role && is_kind Ldd (unwrap_or given Scalar)) ≡ false → SuitsUse role → SuitsRole (used_kind role given) (input_role role)
 suits-role used.Grid given hk h = tt
-suits-role used.Stack given hk h = no-ldd (unwrap_or given Scalar) (some-kind given hk)
+suits-role used.Stack given hk h = no-ldd (unwrap_or given Scalar) hk
 suits-role (used.Table keys kind) given hk h = (h.0, h.1, no-ldd kind h.2)
 suits-role (used.Series kind) given hk h = no-ldd kind h
 
@@ -171,10 +163,13 @@ good-input script b hr h = by-role (role_of (script_uses script) b.name) refl
     by-role (Some role) ho =
         let first = first-use (IsReadIn script) (script_uses script) b.name role hr ho in
         let same : b.name ≡ first.at.name = (bytes_eq-Decides b.name first.at.name).0 first.named in
-        let read = first.holds.prefix b h.file (ap (binding_of script) (sym same) ∙ h.bound) h.file_is (ap (is_assigned script) (sym same) ∙ h.free) in
+        let bound = ap (binding_of script) (sym same) ∙ h.bound in
+        let free = ap (is_assigned script) (sym same) ∙ h.free in
+        let plain = first.holds.plain b h.file bound h.file_is free in
+        let read = first.holds.prefix b h.file bound h.file_is free in
         let file = ap (λ (t : Target). target_file t b.name) h.file_is in
         record {
-          suits = suits-role role b.kind h.plain (subst SuitsUse first.in_role first.holds.suits);
+          suits = suits-role role b.kind (ap (λ r. is_stack r && is_kind Ldd (unwrap_or b.kind Scalar)) (sym first.in_role) ∙ plain) (subst SuitsUse first.in_role first.holds.suits);
           prefix = λ k. ap (λ f. is_bad_prefix f script.steps) file ∙ stack-prefix role (is_bad_prefix h.file script.steps) (ap (λ r. is_stack r && is_bad_prefix h.file script.steps) (sym first.in_role) ∙ read) k;
         }
 
@@ -182,22 +177,22 @@ area-good : (script : Script) (o : Option Binding) → Each (IsGoodInput script)
 area-good script None = (record { suits = tt; prefix = λ k. cc }, tt)
 area-good script (Some b) = tt
 
--- the inputs of a script that is built and has no fault
-pub inputs-good : (script : Script) (lines : List Line) → is_unbuilt script ≡ false → meaning script ≡ Ok lines → Each (IsGoodInput script) (inputs_of script)
-inputs-good script lines hu h =
+-- the inputs of a script that has no fault
+pub inputs-good : (script : Script) (lines : List Line) → meaning script ≡ Ok lines → Each (IsGoodInput script) (inputs_of script)
+inputs-good script lines h =
     let has = has-lines script lines h in
-    let read = script-read script lines hu has.all in
+    let read = script-read script lines has.all in
     each-append (IsGoodInput script) (map (λ file. grid_input file Scalar) (area_files (binding_of script script.area) script.area)) (map (input_of script) (used_inputs script))
     (area-good script (binding_of script script.area))
-    (each-map (input_of script) (IsGoodInput script) (used_inputs script) (each-weaken (IsUsedInput script) (λ b. IsGoodInput script (input_of script b)) (used_inputs script) (λ b k. good-input script b read k) (used-inputs script lines hu has)))
+    (each-map (input_of script) (IsGoodInput script) (used_inputs script) (each-weaken (IsUsedInput script) (λ b. IsGoodInput script (input_of script b)) (used_inputs script) (λ b k. good-input script b read k) (used-inputs script lines has)))
 
 -- they have roles that suit
-pub inputs-suit : (script : Script) (lines : List Line) → is_unbuilt script ≡ false → meaning script ≡ Ok lines → Each (λ (i : InputUse). SuitsRole i.kind i.role) (inputs_of script)
-inputs-suit script lines hu h = each-weaken (IsGoodInput script) (λ (i : InputUse). SuitsRole i.kind i.role) (inputs_of script) (λ i k. k.suits) (inputs-good script lines hu h)
+pub inputs-suit : (script : Script) (lines : List Line) → meaning script ≡ Ok lines → Each (λ (i : InputUse). SuitsRole i.kind i.role) (inputs_of script)
+inputs-suit script lines h = each-weaken (IsGoodInput script) (λ (i : InputUse). SuitsRole i.kind i.role) (inputs_of script) (λ i k. k.suits) (inputs-good script lines h)
 
 -- a stack that is read has a prefix for its names
-pub inputs-prefixes : (script : Script) (lines : List Line) → is_unbuilt script ≡ false → meaning script ≡ Ok lines → Each (λ (i : InputUse). is_stack_role i.role ≡ true → is_bad_prefix i.file script.steps ≡ false) (inputs_of script)
-inputs-prefixes script lines hu h = each-weaken (IsGoodInput script) (λ (i : InputUse). is_stack_role i.role ≡ true → is_bad_prefix i.file script.steps ≡ false) (inputs_of script) (λ i k. k.prefix) (inputs-good script lines hu h)
+pub inputs-prefixes : (script : Script) (lines : List Line) → meaning script ≡ Ok lines → Each (λ (i : InputUse). is_stack_role i.role ≡ true → is_bad_prefix i.file script.steps ≡ false) (inputs_of script)
+inputs-prefixes script lines h = each-weaken (IsGoodInput script) (λ (i : InputUse). is_stack_role i.role ≡ true → is_bad_prefix i.file script.steps ≡ false) (inputs_of script) (λ i k. k.prefix) (inputs-good script lines h)
 
 -- ---- the area map
 
@@ -235,3 +230,7 @@ area-grid script lines h = by-bound (binding_of script script.area) refl
         let free = sym (ap (λ o. is_some o && is_assigned script script.area) e) ∙ h.assigned in
         let i = found-input script script.area b f.0 used.Grid e f.1 free (area-role script) in
         record { input = input_as_used used.Grid b; there = ap (λ n. slice_get (inputs_of script) (unwrap_or n 0)) i.1 ∙ i.2; grid = refl }
+
+-- it is one in a program with these inputs
+pub area-form : (program : Program) (script : Script) → program.inputs ≡ inputs_of script → program.area ≡ area_number script → HasArea script → IsInput program Grid program.area
+area-form program script e ha h = there-input program Grid program.area h.input (ap (λ is. slice_get is program.area) e ∙ ap (slice_get (inputs_of script)) ha ∙ h.there) h.grid

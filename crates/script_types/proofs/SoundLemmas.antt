@@ -13,7 +13,7 @@ use Rattle.map_meaning.specs.Rules.{kind_at}
 use Rattle.map_meaning.specs.Table.{HasKinds, allows, ask_at, common_kind, given_kind, has_count, is_kind, map_row, row_of}
 use Rattle.map_meaning.specs.Trees.{TreeMeaning, meaning_level, meaning_of}
 use Rattle.map_meaning.proofs.Callers.{same_kind}
-use Rattle.script_types.specs.inside.Sound.{Checked, are_allowed, checked, checked_level, has_kinds, is_cell, is_sound}
+use Rattle.script_types.specs.inside.Sound.{Checked, are_allowed, are_mask_kinds, checked, checked_level, has_kinds, is_cell, is_sound}
 use Rattle.script_types.proofs.FitLemmas.{both-left, both-right}
 
 -- ---- one node
@@ -29,7 +29,8 @@ node-kind (Tree-F.Input k n) = ap (λ (m : Checked). m.kind) (fold-roll-Tree Che
 node-kind (Tree-F.Name k name) = ap (λ (m : Checked). m.kind) (fold-roll-Tree Checked checked_level (Tree-F.Name k name)) ∙ sym (ap (λ (m : TreeMeaning). m.kind) (fold-roll-Tree TreeMeaning meaning_level (Tree-F.Name k name)))
 node-kind Tree-F.Time = ap (λ (m : Checked). m.kind) (fold-roll-Tree Checked checked_level Tree-F.Time) ∙ sym (ap (λ (m : TreeMeaning). m.kind) (fold-roll-Tree TreeMeaning meaning_level Tree-F.Time))
 node-kind (Tree-F.Stack k n) = ap (λ (m : Checked). m.kind) (fold-roll-Tree Checked checked_level (Tree-F.Stack k n)) ∙ sym (ap (λ (m : TreeMeaning). m.kind) (fold-roll-Tree TreeMeaning meaning_level (Tree-F.Stack k n)))
-node-kind (Tree-F.LookUp k o file args) = ap (λ (m : Checked). m.kind) (fold-roll-Tree Checked checked_level (Tree-F.LookUp k o file args)) ∙ sym (ap (λ (m : TreeMeaning). m.kind) (fold-roll-Tree TreeMeaning meaning_level (Tree-F.LookUp k o file args)))
+node-kind (Tree-F.CallWith k o file window args) = ap (λ (m : Checked). m.kind) (fold-roll-Tree Checked checked_level (Tree-F.CallWith k o file window args)) ∙ sym (ap (λ (m : TreeMeaning). m.kind) (fold-roll-Tree TreeMeaning meaning_level (Tree-F.CallWith k o file window args)))
+node-kind (Tree-F.Mask args) = ap (λ (m : Checked). m.kind) (fold-roll-Tree Checked checked_level (Tree-F.Mask args)) ∙ sym (ap (λ (m : TreeMeaning). m.kind) (fold-roll-Tree TreeMeaning meaning_level (Tree-F.Mask args)))
 node-kind (Tree-F.Call k o args) = ap (λ (m : Checked). m.kind) (fold-roll-Tree Checked checked_level (Tree-F.Call k o args)) ∙ sym (ap (λ (m : TreeMeaning). m.kind) (fold-roll-Tree TreeMeaning meaning_level (Tree-F.Call k o args)))
 
 -- both name the kind of an expression
@@ -44,7 +45,7 @@ all-sound : (ts : List Tree) → list_all (λ (c : Checked). c.sound) (map check
 all-sound [] = refl
 all-sound (t ∷ ts) = ap (λ b. is_sound t && b) (all-sound ts)
 
--- whether a number, the step, an input, a stack, a name, a call or a look-up keeps to the table
+-- whether a number, the step, an input, a stack, a name, an operation or a mask keeps to the table
 pub sound-number : (k : Kind) (c : Cell) → is_sound (tree.Number k c) ≡ is_cell k c
 unfolding checked
 sound-number k c = ap is_sound (sym (tree.rolls-Number k c)) ∙ ap (λ (m : Checked). m.sound) (fold-roll-Tree Checked checked_level (Tree-F.Number k c))
@@ -69,9 +70,13 @@ pub sound-call : (k : Kind) (o : Op) (args : List Tree) → is_sound (tree.Call 
 unfolding checked
 sound-call k o args = ap is_sound (sym (tree.rolls-Call k o args)) ∙ ap (λ (m : Checked). m.sound) (fold-roll-Tree Checked checked_level (Tree-F.Call k o args)) ∙ ap (λ b. b && has_kinds (row_of o) (map (λ (c : Checked). c.kind) (map checked args)) k) (all-sound args) ∙ ap (λ ks. list_all is_sound args && has_kinds (row_of o) ks k) (checked-kinds args)
 
-pub sound-look-up : (k : Kind) (o : Op) (file : ℕ) (args : List Tree) → is_sound (tree.LookUp k o file args) ≡ (list_all is_sound args && has_kinds (map_row (row_of o)) (map kind-of args) k)
+pub sound-call-with : (k : Kind) (o : Op) (file window : ℕ) (args : List Tree) → is_sound (tree.CallWith k o file window args) ≡ (list_all is_sound args && has_kinds (map_row (row_of o)) (map kind-of args) k)
 unfolding checked
-sound-look-up k o file args = ap is_sound (sym (tree.rolls-LookUp k o file args)) ∙ ap (λ (m : Checked). m.sound) (fold-roll-Tree Checked checked_level (Tree-F.LookUp k o file args)) ∙ ap (λ b. b && has_kinds (map_row (row_of o)) (map (λ (c : Checked). c.kind) (map checked args)) k) (all-sound args) ∙ ap (λ ks. list_all is_sound args && has_kinds (map_row (row_of o)) ks k) (checked-kinds args)
+sound-call-with k o file window args = ap is_sound (sym (tree.rolls-CallWith k o file window args)) ∙ ap (λ (m : Checked). m.sound) (fold-roll-Tree Checked checked_level (Tree-F.CallWith k o file window args)) ∙ ap (λ b. b && has_kinds (map_row (row_of o)) (map (λ (c : Checked). c.kind) (map checked args)) k) (all-sound args) ∙ ap (λ ks. list_all is_sound args && has_kinds (map_row (row_of o)) ks k) (checked-kinds args)
+
+pub sound-mask : (args : List Tree) → is_sound (tree.Mask args) ≡ (list_all is_sound args && are_mask_kinds (map kind-of args))
+unfolding checked
+sound-mask args = ap is_sound (sym (tree.rolls-Mask args)) ∙ ap (λ (m : Checked). m.sound) (fold-roll-Tree Checked checked_level (Tree-F.Mask args)) ∙ ap (λ b. b && are_mask_kinds (map (λ (c : Checked). c.kind) (map checked args))) (all-sound args) ∙ ap (λ ks. list_all is_sound args && are_mask_kinds ks) (checked-kinds args)
 
 -- ---- kinds of a row
 

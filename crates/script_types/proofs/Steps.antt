@@ -205,19 +205,16 @@ rest-next script lines l s ss (more, h) = (more, ap (λ n. drop n (script.initia
 -- a statement is at fault, and so is the section
 pub line-fails : (script : Script) (section : Section) (end : LowerEnd) (above lines more lines-after : List Line) (s : Statement) (ss all : List Statement) (after after-all : Tables) → lines_below script section lines (s ∷ ss) ≡ lines_below script section above all → Adds (Err end) script section lines s after more → AddsAll (Err end) script section above all after-all lines-after
 line-fails script section (lower.Meaning f) above lines more lines-after s ss all after after-all hl h = sym hl ∙ ap (λ r. r >>= λ l. lines_below script section (lines ++ l ∷ []) ss) h
-line-fails script section lower.Unbuilt above lines more lines-after s ss all after after-all hl h = h
 line-fails script section lower.Memory above lines more lines-after s ss all after after-all hl h = tt
 
 -- the first section is at fault
 pub initial-ends : (script : Script) (end : LowerEnd) (scope : Tables) (lines : List Line) (ss : List Statement) → ss ≡ script.initial → AddsAll (Err end) script Initial [] ss scope lines → GivesLines (Err end) script
 initial-ends script (lower.Meaning f) scope lines ss hs h = ap (λ r. r >>= λ ls. lines_below script Dynamic ls script.dynamic) (ap (lines_below script Initial []) (sym hs) ∙ h)
-initial-ends script lower.Unbuilt scope lines ss hs h = h
 initial-ends script lower.Memory scope lines ss hs h = tt
 
 -- the second section is at fault
 pub dynamic-ends : (script : Script) (end : LowerEnd) (scope : Tables) (above lines : List Line) (ss ds : List Statement) → ss ≡ script.initial → ds ≡ script.dynamic → lines_below script Initial [] ss ≡ Ok above → AddsAll (Err end) script Dynamic above ds scope lines → GivesLines (Err end) script
 dynamic-ends script (lower.Meaning f) scope above lines ss ds hs hd ha h = ap (λ r. r >>= λ ls. lines_below script Dynamic ls script.dynamic) (ap (lines_below script Initial []) (sym hs) ∙ ha) ∙ ap (lines_below script Dynamic above) (sym hd) ∙ h
-dynamic-ends script lower.Unbuilt scope above lines ss ds hs hd ha h = h
 dynamic-ends script lower.Memory scope above lines ss ds hs hd ha h = tt
 
 -- both sections are settled
@@ -295,7 +292,6 @@ all-right script lines hb ha h hr = lines-pass script lines hb ha h ∙ passed-o
 -- the bindings end it
 pub settles-begin : (script : Script) (end : LowerEnd) → BeginsPass (Err end) script → SettlesScript (Err end) script
 settles-begin script (lower.Meaning f) h = bindings-fail script f h
-settles-begin script lower.Unbuilt h = h
 settles-begin script lower.Memory h = tt
 
 -- want of memory ends it
@@ -306,13 +302,11 @@ begins-memory (Err end) script h m = let P : LowerEnd → Type 0 = λ e. BeginsP
 -- the area map ends it
 pub settles-area : (script : Script) (end : LowerEnd) → bindings_pass [] script.bindings ≡ Ok 0 → GivesReports (Err end) (area_passes script) → SettlesScript (Err end) script
 settles-area script (lower.Meaning f) hb h = area-fails script f hb h
-settles-area script lower.Unbuilt hb h = h
 settles-area script lower.Memory hb h = tt
 
 -- a statement ends it
 pub settles-lines : (script : Script) (end : LowerEnd) → bindings_pass [] script.bindings ≡ Ok 0 → area_passes script ≡ Ok 0 → GivesLines (Err end) script → SettlesScript (Err end) script
 settles-lines script (lower.Meaning f) hb ha h = lines-fail script f hb ha h
-settles-lines script lower.Unbuilt hb ha h = h
 settles-lines script lower.Memory hb ha h = tt
 
 -- what the tests of the reports tell, by the tables
@@ -322,7 +316,6 @@ reports-are script s h = ap (λ b. reports_pass script.steps b (files_read scrip
 -- a report ends it
 pub settles-reports : (script : Script) (end : LowerEnd) (s : Settled) → bindings_pass [] script.bindings ≡ Ok 0 → area_passes script ≡ Ok 0 → GivesLines (Ok s) script → GivesReports (Err end) (reports_pass script.steps (binding_in s.scope) (files_read script) 0 s.lines) → SettlesScript (Err end) script
 settles-reports script (lower.Meaning f) s hb ha hl h = reports-fail script s.lines f hb ha hl.0 (sym (reports-are script s hl) ∙ h)
-settles-reports script lower.Unbuilt s hb ha hl h = h
 settles-reports script lower.Memory s hb ha hl h = tt
 
 -- nothing ends it

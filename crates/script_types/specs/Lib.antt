@@ -7,7 +7,6 @@ pub mod Reports
 pub mod Meaning
 pub mod Lowered
 pub mod Values
-pub mod Unbuilt
 pub mod Answers
 pub mod Laws
 pub mod inside

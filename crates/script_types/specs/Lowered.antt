@@ -1,11 +1,14 @@
 -- The program of a script: its inputs, its operations in post-order, its outputs.
-use Rattle.std.specs.Prelude.{ℕ, ◌+◌, List, [], ◌∷◌, ◌++◌, filter, length, map, Option, Some, None, if◌then◌else◌}
+use Rattle.std.specs.Prelude.{ℕ, ◌+◌, ◌&&◌, Bool, List, [], ◌∷◌, ◌++◌, filter, length, map, Option, Some, None, if◌then◌else◌}
 use Rattle.std.specs.Option.{unwrap_or}
 use Rattle.cell_values.specs.declared.kind.Kind.{Kind}
-use Rattle.cell_values.specs.declared.kind.Kind.TheVariants.{Scalar}
+use Rattle.cell_values.specs.declared.kind.Kind.TheVariants.{Scalar, Ldd}
 use Rattle.script_syntax.specs.declared.tree.Binding.{Binding}
 use Rattle.script_syntax.specs.declared.tree.Script.{Script}
 use Rattle.map_meaning.specs.declared.op.Op.{Op}
+use Rattle.map_meaning.specs.declared.program.DrainFrom.{DrainFrom}
+use Rattle.map_meaning.specs.declared.program.DrainFrom.TheVariants as drain
+use Rattle.map_meaning.specs.declared.program.DrainUse.{DrainUse}
 use Rattle.map_meaning.specs.declared.program.InputUse.{InputUse}
 use Rattle.map_meaning.specs.declared.program.Operation.{Operation}
 use Rattle.map_meaning.specs.declared.program.OutputKind.{OutputKind}
@@ -17,6 +20,8 @@ use Rattle.map_meaning.specs.declared.tree.Statement.{Statement}
 use Rattle.map_meaning.specs.declared.tree.Tree.{Tree}
 use Rattle.map_meaning.specs.declared.tree.Tree.TheFolds.{fold-Tree}
 use Rattle.map_meaning.specs.declared.tree.Tree.TheOpen.{Tree-F}
+use Rattle.map_meaning.specs.Programs.{is_grid_role}
+use Rattle.map_meaning.specs.Table.{is_kind}
 use Rattle.script_types.specs.declared.typed.Line.{Line}
 use Rattle.script_types.specs.declared.typed.Section.{Section}
 use Rattle.script_types.specs.declared.typed.Section.TheVariants.{Initial, Dynamic}
@@ -88,7 +93,8 @@ post_order_level (Tree-F.Stack kind number) = []
 post_order_level (Tree-F.Input kind number) = []
 post_order_level (Tree-F.Name kind name) = []
 post_order_level (Tree-F.Call kind op operands) = joined_lists operands ++ record { op = op; kind = kind } ∷ []
-post_order_level (Tree-F.LookUp kind op file operands) = joined_lists operands ++ record { op = op; kind = kind } ∷ []
+post_order_level (Tree-F.CallWith kind op file window operands) = joined_lists operands ++ record { op = op; kind = kind } ∷ []
+post_order_level (Tree-F.Mask operands) = joined_lists operands
 
 -- the operations of an expression in post-order: those of the operands from the left, then its own
 unfoldable pub post_order : Tree → List Unnumbered
@@ -113,6 +119,41 @@ as_listed o = record { op = o.op; kind = o.kind; statement = o.statement; number
 abbrev pub total_operations : List Line → ℕ
 total_operations [] = 0
 total_operations (l ∷ ls) = operations_of l.statement.value + total_operations ls
+
+-- ---- drain maps
+
+-- the input is a drain map
+abbrev pub is_drain_input : InputUse → Bool
+is_drain_input input = is_grid_role input.role && is_kind Ldd input.kind
+
+-- What a drain map of a program shows of itself beside its value: the number of the input that it is, if it is one, and how many
+-- operations of `initial` stand before it.
+pub record ShownDrain : Type 0 where
+  pub input : Option ℕ
+  pub after : ℕ
+
+-- the number of the input that a drain map is, if it is one
+abbrev pub drain_input : DrainFrom → Option ℕ
+drain_input (drain.Input n) = Some n
+drain_input _ = None
+
+-- what a program's drain map shows of itself
+abbrev pub as_shown_drain : DrainUse → ShownDrain
+as_shown_drain d = record { input = drain_input d.from; after = d.after }
+
+-- the drain maps among some inputs, of which the first has this number
+abbrev pub input_drains : ℕ → List InputUse → List ShownDrain
+input_drains n [] = []
+input_drains n (input ∷ more) =
+    if is_drain_input input then record { input = Some n; after = 0 } ∷ input_drains (n + 1) more else input_drains (n + 1) more
+
+-- The drain maps that statements of kind ldd give, where so many operations stand before the first statement: each stands behind
+-- the operations of its own statement.
+abbrev pub statement_drains : ℕ → List Line → List ShownDrain
+statement_drains before [] = []
+statement_drains before (l ∷ ls) =
+    let after = before + operations_of l.statement.value in
+    if is_kind Ldd l.kind then record { input = None; after = after } ∷ statement_drains after ls else statement_drains after ls
 
 -- ---- outputs
 
@@ -158,6 +199,10 @@ first_statement Dynamic lines = length (lines_in Initial lines) + 1
 -- the operations of a section
 abbrev pub section_operations : Section → List Line → List Listed
 section_operations section lines = operations_from (first_statement section lines) (lines_in section lines)
+
+-- the drain maps of a script: those of its inputs, and then those of its statements
+abbrev pub drains_of : Script → List Line → List ShownDrain
+drains_of script lines = input_drains 0 (inputs_of script) ++ statement_drains 0 (lines_in Initial lines)
 
 -- the settled statements of some lines
 abbrev pub statements_of : List Line → List Statement

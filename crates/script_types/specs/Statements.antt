@@ -126,7 +126,7 @@ side_checks section kind = (DrainPlace, is_dynamic section && is_kind Ldd kind) 
 -- the expression is an operation
 abbrev pub is_call : Tree → Bool
 is_call (tree.Call' kind op shape operands) = true
-is_call (tree.LookUp' kind op file shape operands) = true
+is_call (tree.CallWith' kind op file window shape operands) = true
 is_call _ = false
 
 -- A right side without an operation has one, a copy; a drain map has none, and neither has a time series of its own.

@@ -13,7 +13,7 @@ use Rattle.map_meaning.specs.declared.row.Meant.{Meant}
 use Rattle.map_meaning.specs.declared.row.Meant.TheVariants as meant
 use Rattle.map_meaning.specs.declared.row.Stands.{Stands}
 use Rattle.map_meaning.specs.declared.row.Stands.TheVariants as stands
-use Rattle.map_meaning.specs.Table.{table_rows, ask_at, takes}
+use Rattle.map_meaning.specs.Table.{table_rows, ask_at, is_length, takes}
 
 -- the row is written so
 abbrev pub is_spelled : Row → List ℕ → Bool
@@ -37,11 +37,6 @@ abbrev pub stands_of : Option Row → Stands
 stands_of None = stands.Anywhere
 stands_of (Some row) = row.stands
 
--- the place asks the length of a window
-abbrev pub is_length : Ask → Bool
-is_length ask.Length = true
-is_length _ = false
-
 -- the word is that of a window
 abbrev pub is_window : Option Row → Bool
 is_window None = false
@@ -51,11 +46,6 @@ is_window (Some r) = is_length (ask_at r 1)
 abbrev pub asks_drain : Ask → Bool
 asks_drain (ask.Only Ldd) = true
 asks_drain _ = false
-
--- what the row stands for is not built
-abbrev pub is_unbuilt_meant : Meant → Bool
-is_unbuilt_meant meant.Unbuilt = true
-is_unbuilt_meant _ = false
 
 -- The operation that the row stands for, if it stands for one.
 abbrev pub op_of : Meant → Op

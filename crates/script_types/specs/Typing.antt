@@ -1,6 +1,6 @@
 -- The kinds of names, numbers and operations, or the first fault at their nodes.
-use Rattle.std.specs.Prelude.{ℕ, ◌+◌, ◌%◌, ◌==◌, Bool, true, false, not, ◌||◌, ◌&&◌, List, []}
-use Rattle.std.specs.Prelude.{◌∷◌, length, map, Option, Some, None, Result, Ok, Err, pos, nat_lt, nat_le, if◌then◌else◌}
+use Rattle.std.specs.Prelude.{ℕ, ◌+◌, Bool, true, false, not, ◌||◌, ◌&&◌, List, []}
+use Rattle.std.specs.Prelude.{◌∷◌, length, map, Option, Some, None, Result, Ok, Err, pos, nat_lt, if◌then◌else◌}
 use Rattle.std.specs.Option.{unwrap_or, is_none}
 use Rattle.text_base.specs.Results.{◌>>=◌}
 use Rattle.cell_values.specs.declared.kind.Kind.{Kind}
@@ -27,7 +27,7 @@ use Rattle.map_meaning.specs.declared.row.Stands.TheVariants as stands
 use Rattle.map_meaning.specs.declared.table.TheConstants.{MANY_OPERANDS}
 use Rattle.map_meaning.specs.declared.tree.Tree.{Tree}
 use Rattle.map_meaning.specs.declared.tree.Tree.TheVariants as tree
-use Rattle.map_meaning.specs.Table.{is_kind, ask_at, allows, given_kind, is_file}
+use Rattle.map_meaning.specs.Table.{is_kind, ask_at, allows, given_kind, is_file, is_length, is_window_length}
 use Rattle.script_types.specs.declared.fault.MeaningKind.{MeaningKind}
 use Rattle.script_types.specs.declared.fault.MeaningKind.TheVariants.{UnknownName, KindMismatch, NotAssigned, BadStackName}
 use Rattle.script_types.specs.declared.fault.MeaningKind.TheVariants.{NameClash, BadWindow, WrongSection, DrainPlace}
@@ -154,10 +154,10 @@ agreed_kind r ts = unwrap_or (first_deciding r 0 ts) Scalar
 abbrev pub kind_of_free : Kinds → Kind
 kind_of_free kinds = if kinds.scalar then Scalar else Nominal
 
--- the number is odd, whole and from 1 to 31
-abbrev pub is_window_length : Result Cell NumberFault → Bool
-is_window_length (Ok (Val (pos n))) = nat_le 1 n && nat_le n 31 && (n % 2 == 1)
-is_window_length _ = false
+-- the whole number that was read; a missing, a negative or a faulty one counts as 0
+abbrev pub whole_number : Result Cell NumberFault → ℕ
+whole_number (Ok (Val (pos n))) = n
+whole_number _ = 0
 
 -- a number as a map
 abbrev pub number_map : Kind → List ℕ → Result Argument MeaningKind
@@ -168,7 +168,7 @@ abbrev pub free_at : Kind → Ask → List ℕ → Result Argument MeaningKind
 free_at agreed (ask.Only kind) text = number_map kind text
 free_at agreed (ask.One kinds) text = number_map (kind_of_free kinds) text
 free_at agreed (ask.Alike kinds) text = number_map agreed text
-free_at agreed ask.Length text = Ok argument.Length
+free_at agreed ask.Length text = Ok (argument.Length (whole_number (cell_read Nominal text)))
 free_at agreed _ text = Err KindMismatch
 
 -- a table, a series or a stack at its place
@@ -195,19 +195,25 @@ arguments_at row agreed i (t ∷ ts) =
 abbrev pub argument_kind : Argument → Kind
 argument_kind (argument.Map v) = v.kind
 argument_kind (argument.File kind number) = kind
-argument_kind argument.Length = Nominal
+argument_kind (argument.Length length) = Nominal
 
 -- the operands that are maps
 abbrev pub maps_of : List Argument → List Tree
 maps_of [] = []
 maps_of (argument.Map v ∷ more) = v.tree ∷ maps_of more
 maps_of (argument.File kind number ∷ more) = maps_of more
-maps_of (argument.Length ∷ more) = maps_of more
+maps_of (argument.Length length ∷ more) = maps_of more
 
 -- the number of the input that the first operand is, which is a table, a series or a stack
 abbrev pub file_of : List Argument → ℕ
 file_of (argument.File kind number ∷ more) = number
 file_of _ = 0
+
+-- the length of a window that is among the operands
+abbrev pub length_among : List Argument → ℕ
+length_among [] = 0
+length_among (argument.Length length ∷ more) = length
+length_among (_ ∷ more) = length_among more
 
 -- ---- a call
 
@@ -225,10 +231,12 @@ nested op kind (t ∷ ts) = nested_on op kind t ts
 abbrev pub call_tree : Row → Kind → List Tree → Tree
 call_tree row kind ts = if nat_lt row.most MANY_OPERANDS then tree.Call kind (op_of row.meant) ts else nested (op_of row.meant) kind ts
 
--- an operation on operands that stand at their places: it may look its results up in a table or a series
+-- an operation on operands that stand at their places: it may look its results up in a table or a series, or look at windows
 abbrev pub operation_tree : Row → Kind → List Argument → Tree
 operation_tree row kind xs =
-    if is_file row.first then tree.LookUp kind (op_of row.meant) (file_of xs) (maps_of xs) else call_tree row kind (maps_of xs)
+    if is_file row.first then tree.CallWith kind (op_of row.meant) (file_of xs) 0 (maps_of xs)
+    else if is_length row.second then tree.CallWith kind (op_of row.meant) 0 (length_among xs) (maps_of xs)
+    else call_tree row kind (maps_of xs)
 
 -- a map of the kind
 abbrev pub typed_map : Kind → Tree → Typed
@@ -249,6 +257,7 @@ abbrev pub meant_value : Meant → Row → Kind → List Argument → Result Typ
 meant_value meant.Step row kind xs = Ok (typed_map kind tree.Time)
 meant_value meant.Stack row kind xs = Ok (typed_map kind (tree.Stack kind (file_of xs)))
 meant_value meant.Sample row kind xs = sample_of xs
+meant_value meant.Mask row kind xs = Ok (typed_map kind (tree.Mask (maps_of xs)))
 meant_value _ row kind xs = Ok (typed_map kind (operation_tree row kind xs))
 
 -- what a row stands for, on these operands
@@ -307,7 +316,7 @@ is_misplaced_mask _ section is_whole = false
 
 -- the operand is a literal that is the length of a window
 abbrev pub is_good_length : Typed → Bool
-is_good_length (typed.Literal text) = is_window_length (cell_read Nominal text)
+is_good_length (typed.Literal text) = is_window_length (whole_number (cell_read Nominal text))
 is_good_length _ = false
 
 -- there is a second operand, and it is no length of a window

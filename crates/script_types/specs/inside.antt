@@ -8,6 +8,7 @@ pub mod Sound
 pub mod Stacks
 pub mod StackFiles
 pub mod Taken
+pub mod Drains
 pub mod Nodes
 pub mod Sections
 pub mod Values

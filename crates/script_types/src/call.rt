@@ -1,17 +1,14 @@
 ghost use Rattle.std.specs.Prelude.{◌≡◌};
-ghost use Rattle.cell_values.specs.declared.cell.Cell.TheVariants.{Val};
-ghost use Rattle.map_meaning.specs.Table.{ask_at};
-ghost use Rattle.script_types.specs.Table.{is_length};
-ghost use Rattle.script_types.specs.Typing.{begins_free, begins_without_grid, call_read, has_bad_length, is_free, is_good_length, is_in_initial, is_in_wrong_section, is_input_grid, is_misplaced_mask, is_window_length};
+ghost use Rattle.map_meaning.specs.Table.{is_window_length};
+ghost use Rattle.script_types.specs.Typing.{begins_free, begins_without_grid, call_read, has_bad_length, is_free, is_good_length, is_in_initial, is_in_wrong_section, is_input_grid, is_misplaced_mask};
 ghost use Rattle.script_types.specs.inside.Scopes.{GivesKind};
 
 use crate::end::KindEnd;
 use crate::fault::MeaningKind;
-use crate::operands::{agreed_kind, row_value};
-use crate::table::{ask_at, asks_drain, row_for, word_row};
+use crate::operands::{agreed_kind, length_of, row_value};
+use crate::table::{ask_at, asks_drain, is_length, row_for, word_row};
 use crate::typed::{Section, Typed};
-use cell_values::{Cell, Kind, read_cell};
-use map_meaning::{Ask, Row, Stands, Tree};
+use map_meaning::{Stands, Tree};
 use std::alloc::Global;
 
 // Whether the section is `initial`.
@@ -83,25 +80,18 @@ fn is_misplaced_mask(stands: Stands, section: Section, is_whole: bool) -> bool
 }
 
 // Whether the number is odd and from 1 to 31.
-fn is_odd_to_31(number: i64) -> bool
-    ensures { result ≡ is_window_length (Ok (Val number)) }
+fn is_window_length(length: u32) -> bool
+    ensures { result ≡ is_window_length length }
 {
-    if number < 0 {
-        return false;
-    }
-    let size = number as u64;
-    1 <= size && size <= 31 && size % 2 == 1
+    length % 2 == 1 && length <= 31
 }
 
 // Whether the operand is a literal that is the length of a window.
 fn is_good_length(operand: &Typed) -> bool
     ensures { result ≡ is_good_length operand.now }
 {
-    let Typed::Literal(text) = operand else {
-        return false;
-    };
-    match read_cell(Kind::Nominal, text.bytes()) {
-        Ok(Cell::Val(number)) => is_odd_to_31(number),
+    match operand {
+        Typed::Literal(text) => is_window_length(length_of(text.bytes())),
         _ => false,
     }
 }
@@ -114,13 +104,6 @@ fn has_bad_length(operands: &[Typed]) -> bool
         [_, second, ..] => !is_good_length(second),
         _ => false,
     }
-}
-
-// Whether the row is that of a window.
-fn is_window(row: &Row) -> bool
-    ensures { result ≡ is_length (ask_at row.now 1) }
-{
-    matches!(ask_at(row, 1), Ask::Length)
 }
 
 /// An operation on these operands, or the first fault at its node.
@@ -146,7 +129,7 @@ pub fn call(
     if is_misplaced_mask(named.stands, section, is_whole) {
         return Err(KindEnd::Meaning(MeaningKind::DrainPlace));
     }
-    if is_window(named) && has_bad_length(operands.as_slice()) {
+    if is_length(ask_at(named, 1)) && has_bad_length(operands.as_slice()) {
         return Err(KindEnd::Meaning(MeaningKind::BadWindow));
     }
     let Some(row) = row_for(word, operands.len()) else {

@@ -37,9 +37,6 @@ pub enum LowerEnd {
     /// Its first fault of meaning.
     #[error(transparent)]
     Meaning(MeaningFault),
-    /// It has something of the language that is not built yet. This is told before every fault of meaning.
-    #[error("not built yet")]
-    Unbuilt,
     /// There was no memory for the program.
     #[error("out of memory")]
     Memory,

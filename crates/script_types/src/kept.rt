@@ -1,9 +1,9 @@
-ghost use Rattle.std.specs.Prelude.{◌≡◌, ◌==◌, IfOk, length};
-ghost use Rattle.map_meaning.specs.Programs.{is_initial, is_last, operands_of};
+ghost use Rattle.std.specs.Prelude.{◌≡◌, ◌==◌, IfOk, OnOk, length};
 ghost use Rattle.std.specs.List.{list_any};
-ghost use Rattle.script_types.specs.inside.Kept.{KeepsOperations, Marks, is_marked, is_now_or_last, some_operand, some_output, kept_where};
+ghost use Rattle.map_meaning.specs.Programs.{is_initial, is_last, is_read_behind, operands_of};
+ghost use Rattle.script_types.specs.inside.Kept.{AreBegins, KeepsOperations, Marks, begins_stage, is_earlier, is_kept_by, is_kept_in_steps_by, is_marked, is_now_or_last, kept_where, some_mask, some_operand, some_output};
 
-use map_meaning::{Operand, Operation, OutputUse};
+use map_meaning::{DrainFrom, DrainUse, Operand, Operation, OutputUse};
 use sqlite_items::Items;
 use std::alloc::{AllocError, Global};
 
@@ -12,6 +12,7 @@ use std::alloc::{AllocError, Global};
 pub struct Written {
     pub initial: Items<Operation>,
     pub dynamic: Items<Operation>,
+    pub drains: Items<DrainUse>,
     pub outputs: Items<OutputUse>,
 }
 
@@ -93,6 +94,65 @@ fn mark_outputs(marks: &mut [bool], step_marks: &mut [bool], outputs: &[OutputUs
     }
 }
 
+// Marks what masks drain maps.
+fn mark_masks(marks: &mut [bool], drains: &[DrainUse])
+    ensures { Marks marks.old marks.new (λ n. some_mask (is_initial n) drains.now) }
+{
+    for drain in drains {
+        if let DrainFrom::Mask { by, .. } = drain.from {
+            mark_initial(marks, by);
+        }
+    }
+}
+
+// Marks the operations of `initial` that stages begin with.
+fn mark_begins(begins: &mut [bool], drains: &[DrainUse])
+    ensures { Marks begins.old begins.new (λ n. begins_stage n drains.now) }
+{
+    for drain in drains {
+        mark(begins, drain.after);
+    }
+}
+
+// Marks the operation of an earlier stage that an operand may be, where the stage begins with this number.
+fn mark_earlier(marks: &mut [bool], begin: usize, operand: Operand)
+    ensures { Marks marks.old marks.new (λ n. is_earlier begin n operand) }
+{
+    let number = match operand {
+        Operand::Initial(number) => number,
+        Operand::Last { initial, .. } => initial,
+        _ => return,
+    };
+    if (number as usize) < begin {
+        mark(marks, number);
+    }
+}
+
+// Marks what an operation of the stage that begins with this number reads of earlier stages.
+fn mark_behind(marks: &mut [bool], begin: usize, operation: &Operation)
+    ensures { Marks marks.old marks.new (λ n. list_any (is_earlier begin n) (operands_of operation.now)) }
+{
+    mark_earlier(marks, begin, operation.a);
+    mark_earlier(marks, begin, operation.b);
+    mark_earlier(marks, begin, operation.c);
+    mark_earlier(marks, begin, operation.d);
+}
+
+// Marks what the operations of `initial` read of earlier stages. The begin of the stage is carried along.
+fn mark_stages(marks: &mut [bool], begins: &[bool], operations: &[Operation], drains: &[DrainUse])
+    requires count { length begins.now ≡ length operations.now }
+    requires begins { AreBegins begins.now drains.now }
+    ensures { Marks marks.old marks.new (λ n. is_read_behind drains.now n 0 operations.now) }
+{
+    let mut begin = 0;
+    for at in 0..operations.len() {
+        if begins[at] {
+            begin = at;
+        }
+        mark_behind(marks, begin, &operations[at]);
+    }
+}
+
 // The operations, kept where they are marked.
 fn with_kept(
     alloc: Global,
@@ -112,23 +172,43 @@ fn with_kept(
     Ok(new)
 }
 
-/// What was written, with each operation kept exactly where a step reads its map, or an output writes it. Takes time in
-/// proportion to what was written.
+// The marks of `initial`: what a step, a later stage or a mask reads, and what an output writes; and those of `dynamic`.
+fn mark_all(
+    alloc: Global,
+    marks: &mut [bool],
+    step_marks: &mut [bool],
+    written: &Written,
+) -> Result<(), AllocError>
+    requires count { length marks.old ≡ length written.now.initial }
+    ensures marks { OnOk result (Marks marks.old marks.new (λ n. is_kept_by written.now n)) }
+    ensures step_marks { OnOk result (Marks step_marks.old step_marks.new (λ n. is_kept_in_steps_by written.now n)) }
+{
+    let mut begins = vec![in alloc; false; written.initial.len()]?;
+    mark_begins(&mut begins, written.drains.as_slice());
+    mark_operations(marks, step_marks, written.dynamic.as_slice());
+    mark_outputs(marks, step_marks, written.outputs.as_slice());
+    mark_masks(marks, written.drains.as_slice());
+    mark_stages(
+        marks,
+        &begins,
+        written.initial.as_slice(),
+        written.drains.as_slice(),
+    );
+    Ok(())
+}
+
+/// What was written, with each operation kept exactly where a step, a later stage of `initial` or a mask reads its map, or an output
+/// writes it. Takes time in proportion to what was written.
 pub fn keep(alloc: Global, written: Written) -> Result<Written, AllocError>
     ensures { IfOk result (λ new. KeepsOperations written new) }
 {
-    let Written {
-        initial,
-        dynamic,
-        outputs,
-    } = written;
-    let mut marks = vec![in alloc; false; initial.len()]?;
-    let mut step_marks = vec![in alloc; false; dynamic.len()]?;
-    mark_operations(&mut marks, &mut step_marks, dynamic.as_slice());
-    mark_outputs(&mut marks, &mut step_marks, outputs.as_slice());
+    let mut marks = vec![in alloc; false; written.initial.len()]?;
+    let mut step_marks = vec![in alloc; false; written.dynamic.len()]?;
+    mark_all(alloc, &mut marks, &mut step_marks, &written)?;
     Ok(Written {
-        initial: with_kept(alloc, initial.as_slice(), &marks)?,
-        dynamic: with_kept(alloc, dynamic.as_slice(), &step_marks)?,
-        outputs,
+        initial: with_kept(alloc, written.initial.as_slice(), &marks)?,
+        dynamic: with_kept(alloc, written.dynamic.as_slice(), &step_marks)?,
+        drains: written.drains,
+        outputs: written.outputs,
     })
 }

@@ -4,6 +4,7 @@
 
 mod bindings;
 mod call;
+mod drains;
 mod emit;
 mod end;
 mod fault;
@@ -24,7 +25,6 @@ mod table;
 mod tables;
 mod typed;
 mod typing;
-mod unbuilt;
 
 pub use end::LowerEnd;
 pub use fault::{MeaningFault, MeaningKind, Place};

@@ -121,7 +121,7 @@ fn is_dynamic(section: Section) -> bool
 fn is_call(tree: &Tree) -> bool
     ensures { result ≡ is_call tree.now }
 {
-    matches!(tree, Tree::Call { .. } | Tree::LookUp { .. })
+    matches!(tree, Tree::Call { .. } | Tree::CallWith { .. })
 }
 
 // A right side without an operation has one, a copy; a drain map has none, and neither has a time series of its own.
@@ -157,13 +157,16 @@ pub fn count_with(tree: &Tree, above: usize) -> Option<usize>
         Tree::Input { .. } => Some(above),
         Tree::Stack { .. } => Some(above),
         Tree::Name { .. } => Some(above),
-        Tree::Call { operands, .. } | Tree::LookUp { operands, .. } => {
+        Tree::Call { operands, .. } | Tree::CallWith { operands, .. } | Tree::Mask { operands } => {
             let mut count = above;
             for operand in operands.as_slice() {
                 match count_with(operand, count) {
                     Some(more) => count = more,
                     None => return None,
                 }
+            }
+            if !is_call(tree) {
+                return Some(count);
             }
             if count < MOST_OPERATIONS {
                 Some(count + 1)

@@ -12,7 +12,6 @@ use crate::end::LowerEnd;
 use crate::kept::keep;
 use crate::program::{inputs_of, write_lines};
 use crate::settle::{Settled, settle};
-use crate::unbuilt::is_unbuilt;
 use map_meaning::Program;
 use script_syntax::Script;
 use std::alloc::{AllocError, Global};
@@ -26,29 +25,32 @@ fn program_of(alloc: Global, script: &Script, settled: &Settled<'_>) -> Result<P
     ensures { IfOk result (λ program. IsProgramWritten script.now settled.now.lines program) }
 {
     let inputs = inputs_of(alloc, script, settled)?;
-    let written = write_lines(alloc, &settled.scope, settled.lines.as_slice())?;
+    let written = write_lines(
+        alloc,
+        &settled.scope,
+        inputs.as_slice(),
+        settled.lines.as_slice(),
+    )?;
     let kept = keep(alloc, written)?;
     let area = settled.scope.inputs.get(script.area.bytes()).unwrap_or(0);
     Ok(Program {
         inputs,
         initial: kept.initial,
         dynamic: kept.dynamic,
+        drains: kept.drains,
         outputs: kept.outputs,
         area,
         steps: script.steps,
     })
 }
 
-/// The program of a script. `Unbuilt` comes exactly where the script has something of the language that is not built yet,
-/// and before every fault; `Meaning` exactly where it has a fault, which is the first in the order of the language's rules.
+/// The program of a script. `Meaning` comes exactly where the script has a fault, which is the first in the order of the
+/// language's rules.
 /// Takes time in proportion to the script, but for the search of names and of words in the table of operations.
 pub fn lower(alloc: Global, script: &Script) -> Result<Program, LowerEnd>
     requires { IsWellMade script.now }
     ensures { Lowers result script.now }
 {
-    if is_unbuilt(script) {
-        return Err(LowerEnd::Unbuilt);
-    }
     let settled = match settle(alloc, script) {
         Ok(settled) => settled,
         Err(end) => return Err(end),

@@ -1,7 +1,9 @@
 ghost use Rattle.std.specs.Prelude.{◌≡◌, map, IfOk};
 ghost use Rattle.std.specs.Vec.Iter.{into_iter_items};
 ghost use Rattle.map_meaning.specs.Table.{allows, given_kind, is_file};
-ghost use Rattle.script_types.specs.Typing.{agreed_kind, argument_at, argument_kind, arguments_at, call_tree, deciding, bound_file_at, file_of, free_at, input_in, kind_of_free, typed_map, maps_of, meant_value, nested_on, number_map, operation_tree, row_value, sample_of};
+ghost use Rattle.cell_values.specs.declared.kind.Kind.TheVariants.{Nominal};
+ghost use Rattle.cell_values.specs.inside.Reading.{cell_read};
+ghost use Rattle.script_types.specs.Typing.{agreed_kind, length_among, whole_number, argument_at, argument_kind, arguments_at, call_tree, deciding, bound_file_at, file_of, free_at, input_in, kind_of_free, typed_map, maps_of, meant_value, nested_on, number_map, operation_tree, row_value, sample_of};
 ghost use Rattle.script_types.specs.inside.Samples.{map_in};
 ghost use Rattle.script_types.specs.inside.Scopes.{GivesKind, GivesList};
 
@@ -9,9 +11,9 @@ use crate::end::KindEnd;
 use crate::fault::MeaningKind;
 use crate::same::{has_kind, is_kind};
 use crate::scope::number_as;
-use crate::table::{ask_at, op_of};
+use crate::table::{ask_at, is_length, op_of};
 use crate::typed::{Argument, Typed, Value};
-use cell_values::Kind;
+use cell_values::{Cell, Kind, read_cell};
 use map_meaning::{Ask, Given, Kinds, MANY_OPERANDS, Meant, Op, Row, Tree};
 use sqlite_items::{Items, at as at_place};
 use std::alloc::{AllocError, Global};
@@ -57,6 +59,16 @@ fn number_map(kind: Kind, text: &[u8]) -> Result<Argument, KindEnd>
     Ok(Argument::Map(number_as(kind, text)?))
 }
 
+/// The whole number that a text gives; 0 where it gives none.
+pub fn length_of(text: &[u8]) -> u32
+    ensures { result ≡ whole_number (cell_read Nominal text.now) }
+{
+    match read_cell(Kind::Nominal, text) {
+        Ok(Cell::Val(number)) if number >= 0 => number as u32,
+        _ => 0,
+    }
+}
+
 // A free number at its place.
 fn free_at(agreed: Kind, asked: Ask, text: &[u8]) -> Result<Argument, KindEnd>
     ensures { GivesKind result (free_at agreed asked text.now) }
@@ -65,7 +77,7 @@ fn free_at(agreed: Kind, asked: Ask, text: &[u8]) -> Result<Argument, KindEnd>
         Ask::Only(kind) => number_map(kind, text),
         Ask::One(kinds) => number_map(kind_of_free(kinds), text),
         Ask::Alike(_) => number_map(agreed, text),
-        Ask::Length => Ok(Argument::Length),
+        Ask::Length => Ok(Argument::Length(length_of(text))),
         Ask::Table(_) => Err(KindEnd::Meaning(MeaningKind::KindMismatch)),
         Ask::Series(_) => Err(KindEnd::Meaning(MeaningKind::KindMismatch)),
         Ask::Stack => Err(KindEnd::Meaning(MeaningKind::KindMismatch)),
@@ -152,7 +164,7 @@ fn argument_kind(argument: &Argument) -> Kind
     match argument {
         Argument::Map(value) => value.kind,
         Argument::File { kind, .. } => *kind,
-        Argument::Length => Kind::Nominal,
+        Argument::Length(_) => Kind::Nominal,
     }
 }
 
@@ -236,6 +248,18 @@ fn file_of(arguments: &[Argument]) -> u32
     }
 }
 
+// The length of a window that is among the operands.
+fn length_among(arguments: &[Argument]) -> u32
+    ensures { result ≡ length_among arguments.now }
+{
+    for argument in arguments {
+        if let Argument::Length(length) = argument {
+            return *length;
+        }
+    }
+    0
+}
+
 // Whether the place asks a table or a series.
 fn is_file(asked: Ask) -> bool
     ensures { result ≡ is_file asked }
@@ -261,12 +285,23 @@ fn operation_tree(
     ensures { IfOk result (λ tree. tree ≡ operation_tree row.now kind arguments.items) }
 {
     let file = file_of(arguments.as_slice());
+    let window = length_among(arguments.as_slice());
     let maps = maps_of(alloc, arguments)?;
     if is_file(row.first) {
-        return Ok(Tree::LookUp {
+        return Ok(Tree::CallWith {
             kind,
             op: op_of(row.meant),
             file,
+            window: 0,
+            operands: Items::from_vec(maps),
+        });
+    }
+    if is_length(row.second) {
+        return Ok(Tree::CallWith {
+            kind,
+            op: op_of(row.meant),
+            file: 0,
+            window,
             operands: Items::from_vec(maps),
         });
     }
@@ -290,7 +325,7 @@ fn map_in(argument: Option<Argument>) -> Option<Value>
     match argument {
         Some(Argument::Map(value)) => Some(value),
         Some(Argument::File { .. }) => None,
-        Some(Argument::Length) => None,
+        Some(Argument::Length(_)) => None,
         None => None,
     }
 }
@@ -331,7 +366,10 @@ fn meant_value(
             input: file_of(arguments.as_slice()),
         },
         Meant::Sample => return sample_of(arguments),
-        Meant::Op(_) | Meant::Unbuilt => operation_tree(alloc, row, kind, arguments)?,
+        Meant::Mask => Tree::Mask {
+            operands: Items::from_vec(maps_of(alloc, arguments)?),
+        },
+        Meant::Op(_) => operation_tree(alloc, row, kind, arguments)?,
     };
     Ok(Typed::Map(Value { kind, tree }))
 }

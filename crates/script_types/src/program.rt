@@ -1,4 +1,5 @@
 ghost use Rattle.std.specs.Prelude.{◌≡◌, ◌≤◌, ◌++◌, ◌∷◌, [], true, IfOk, OnOk, length, map, filter, if◌then◌else◌};
+ghost use Rattle.map_meaning.specs.Limits.{most_inputs};
 ghost use Rattle.map_meaning.specs.Programs.{SuitsRole};
 ghost use Rattle.script_types.specs.Lowered.{input_as_used, used_kind, input_role, inputs_of, lines_in, total_operations};
 ghost use Rattle.script_types.specs.inside.Answers.{StandsBelow, is_input_in};
@@ -7,6 +8,7 @@ ghost use Rattle.script_types.specs.inside.Scopes.{binding_in};
 ghost use Rattle.script_types.specs.declared.typed.Section.TheVariants.{Initial, Dynamic};
 
 use crate::bindings::is_input;
+use crate::drains::write_input_drains;
 use crate::kept::Written;
 use crate::names::Names;
 use crate::scope::Scope;
@@ -32,23 +34,34 @@ fn initial_count(lines: &[Line]) -> usize
     count
 }
 
-/// Writes the operations and the outputs of the statements of a script, section by section.
-pub fn write_lines(alloc: Global, scope: &Scope<'_>, lines: &[Line]) -> Result<Written, AllocError>
+/// Writes the drain maps of the inputs, and the operations, the drain maps and the outputs of the statements of a script, section by
+/// section.
+pub fn write_lines(
+    alloc: Global,
+    scope: &Scope<'_>,
+    inputs: &[InputUse],
+    lines: &[Line],
+) -> Result<Written, AllocError>
     requires ordered { lines.now ≡ lines_in Initial lines.now ++ lines_in Dynamic lines.now }
+    requires few_inputs { length inputs.now ≤ most_inputs }
     requires few { length lines.now ≤ 1000 }
     requires few_initial { total_operations (lines_in Initial lines.now) ≤ 8192 }
     requires few_dynamic { total_operations (lines_in Dynamic lines.now) ≤ 8192 }
-    ensures { IfOk result (λ written. AreBothWritten (binding_in scope.now) lines.now written) }
+    ensures { IfOk result (λ written. AreBothWritten (binding_in scope.now) inputs.now lines.now written) }
 {
     let count = initial_count(lines);
     let first = &lines[..count];
     let later = &lines[count..];
+    let mut drains = Items::new(alloc);
+    let numbers = write_input_drains(alloc, &mut drains, inputs)?;
     let mut outputs = Items::new(alloc);
     let mut holders = Names::new(alloc);
     let initial = write_section(
         alloc,
         scope,
+        numbers.as_slice(),
         Section::Initial,
+        &mut drains,
         &mut outputs,
         &mut holders,
         0,
@@ -58,7 +71,9 @@ pub fn write_lines(alloc: Global, scope: &Scope<'_>, lines: &[Line]) -> Result<W
     let dynamic = write_section(
         alloc,
         scope,
+        numbers.as_slice(),
         Section::Dynamic,
+        &mut drains,
         &mut outputs,
         &mut holders,
         count,
@@ -67,6 +82,7 @@ pub fn write_lines(alloc: Global, scope: &Scope<'_>, lines: &[Line]) -> Result<W
     Ok(Written {
         initial,
         dynamic,
+        drains,
         outputs,
     })
 }

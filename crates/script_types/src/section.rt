@@ -1,19 +1,21 @@
-ghost use Rattle.std.specs.Prelude.{◌≡◌, ◌+◌, ◌-◌, ◌≤◌, ◌++◌, ℕ, List, IfOk, OnOk, length, if◌then◌else◌};
+ghost use Rattle.std.specs.Prelude.{◌≡◌, ◌+◌, ◌-◌, ◌<◌, ◌≤◌, ◌++◌, ℕ, List, IfOk, OnOk, length, if◌then◌else◌};
+ghost use Rattle.map_meaning.specs.Limits.{most_drains};
 ghost use Rattle.script_types.specs.Lowered.{form_by, total_operations};
 ghost use Rattle.script_types.specs.Reports.{file_written};
 ghost use Rattle.script_types.specs.Statements.{operations_of};
 ghost use Rattle.script_types.specs.inside.Nodes.{held_in};
 ghost use Rattle.script_types.specs.inside.Scopes.{binding_in};
-ghost use Rattle.script_types.specs.inside.Sections.{own_operand};
-ghost use Rattle.script_types.specs.inside.Written.{AddsLine, AreWritten, carried_operand, gives_name, held_before, output_with};
+ghost use Rattle.script_types.specs.inside.Written.{AddsDrain, AddsLine, AddsMap, AreWritten, carried_operand, gives_name, held_before, output_with};
 
+use crate::drains::emit_drain;
 use crate::emit::{At, emit, own_operand};
 use crate::line::count_with;
 use crate::names::Names;
+use crate::same::is_kind;
 use crate::scope::Scope;
 use crate::typed::{Line, Section};
-use cell_values::Word;
-use map_meaning::{Operand, Operation, OutputKind, OutputUse};
+use cell_values::{Kind, Word};
+use map_meaning::{DrainUse, Operand, Operation, OutputKind, OutputUse};
 use script_syntax::Target;
 use sqlite_items::Items;
 use std::alloc::{AllocError, Global};
@@ -66,53 +68,102 @@ fn write_output(
     })
 }
 
-// Notes that the last of so many operations has the map of a statement's target. The target of a time series is not read.
+// Notes that an operand has the map of a statement's target. The target of a time series is not read.
 fn note_target(
     alloc: Global,
     holders: &mut Names<Operand>,
-    section: Section,
-    below: usize,
+    operand: Operand,
     line: &Line,
 ) -> Result<(), AllocError>
-    requires { below ≤ 8192 }
-    ensures { OnOk result ((name : List ℕ) → held_in holders.new name ≡ (if gives_name line.now name then own_operand section (below - 1) else held_in holders.old name)) }
+    ensures { OnOk result ((name : List ℕ) → held_in holders.new name ≡ (if gives_name line.now name then operand else held_in holders.old name)) }
 {
     if line.sample.is_some() {
         return Ok(());
     }
-    let last = own_operand(section, below.saturating_sub(1) as u32);
-    holders.set(alloc, line.statement.target.bytes(), last)
+    holders.set(alloc, line.statement.target.bytes(), operand)
 }
 
-// Writes the operations of a statement, and its output where it reports.
-fn write_line(
+// Writes the operations of a statement that is no drain map, and its output where it reports.
+fn write_map(
     alloc: Global,
     scope: &Scope<'_>,
-    section: Section,
+    numbers: &[u32],
+    at: At,
     ops: &mut Items<Operation>,
     outputs: &mut Items<OutputUse>,
     holders: &mut Names<Operand>,
-    statement: u32,
     line: &Line,
 ) -> Result<(), AllocError>
-    requires { length ops.old + operations_of line.now.statement.value ≤ 8192 }
-    ensures { OnOk result (AddsLine section (binding_in scope.now) (held_in holders.old) (held_in holders.new) ops.old ops.new outputs.old outputs.new statement line.now) }
+    requires first { at.first ≡ length ops.old }
+    requires room { length ops.old + operations_of line.now.statement.value ≤ 8192 }
+    ensures { OnOk result (AddsMap at.section (binding_in scope.now) numbers.now (held_in holders.old) (held_in holders.new) ops.old ops.new outputs.old outputs.new at.statement line.now) }
 {
-    let at = At {
-        section,
-        statement,
-        first: ops.len(),
-    };
-    let value = emit(alloc, ops, holders, at, &line.statement.value)?;
-    note_target(alloc, holders, section, ops.len(), line)?;
-    write_output(alloc, scope, outputs, statement, value, line)
+    let value = emit(alloc, ops, numbers, holders, at, &line.statement.value)?;
+    let last = own_operand(at.section, ops.len().saturating_sub(1) as u32);
+    note_target(alloc, holders, last, line)?;
+    write_output(alloc, scope, outputs, at.statement, value, line)
 }
 
-/// Writes the operations and the outputs of the statements of a section, above which so many others stand.
+// Writes the operations of a statement that is a drain map, the drain map behind them, and its output where it reports.
+fn write_drain(
+    alloc: Global,
+    scope: &Scope<'_>,
+    numbers: &[u32],
+    at: At,
+    ops: &mut Items<Operation>,
+    drains: &mut Items<DrainUse>,
+    outputs: &mut Items<OutputUse>,
+    holders: &mut Names<Operand>,
+    line: &Line,
+) -> Result<(), AllocError>
+    requires first { at.first ≡ length ops.old }
+    requires room { length ops.old + operations_of line.now.statement.value ≤ 8192 }
+    requires few { length drains.old < most_drains }
+    ensures { OnOk result (AddsDrain at.section (binding_in scope.now) numbers.now (held_in holders.old) (held_in holders.new) ops.old ops.new drains.old drains.new outputs.old outputs.new at.statement line.now) }
+{
+    let from = emit_drain(alloc, ops, numbers, holders, at, &line.statement.value)?;
+    let value = Operand::Drain(drains.len() as u32);
+    drains.push(DrainUse {
+        from,
+        after: ops.len() as u32,
+    })?;
+    note_target(alloc, holders, value, line)?;
+    write_output(alloc, scope, outputs, at.statement, value, line)
+}
+
+// Writes the operations of a statement, its drain map where it is one, and its output where it reports.
+fn write_line(
+    alloc: Global,
+    scope: &Scope<'_>,
+    numbers: &[u32],
+    at: At,
+    ops: &mut Items<Operation>,
+    drains: &mut Items<DrainUse>,
+    outputs: &mut Items<OutputUse>,
+    holders: &mut Names<Operand>,
+    line: &Line,
+) -> Result<(), AllocError>
+    requires first { at.first ≡ length ops.old }
+    requires room { length ops.old + operations_of line.now.statement.value ≤ 8192 }
+    requires few { length drains.old < most_drains }
+    ensures { OnOk result (AddsLine at.section (binding_in scope.now) numbers.now (held_in holders.old) (held_in holders.new) ops.old ops.new drains.old drains.new outputs.old outputs.new at.statement line.now) }
+{
+    if is_kind(Kind::Ldd, line.kind) {
+        return write_drain(
+            alloc, scope, numbers, at, ops, drains, outputs, holders, line,
+        );
+    }
+    write_map(alloc, scope, numbers, at, ops, outputs, holders, line)
+}
+
+/// Writes the operations, the drain maps and the outputs of the statements of a section, above which so many others stand. These are
+/// the numbers of the inputs among drain maps.
 pub fn write_section(
     alloc: Global,
     scope: &Scope<'_>,
+    numbers: &[u32],
     section: Section,
+    drains: &mut Items<DrainUse>,
     outputs: &mut Items<OutputUse>,
     holders: &mut Names<Operand>,
     above: usize,
@@ -120,13 +171,26 @@ pub fn write_section(
 ) -> Result<Items<Operation>, AllocError>
     requires few { above + length lines.now ≤ 1000 }
     requires room { total_operations lines.now ≤ 8192 }
-    ensures { IfOk result (λ ops. AreWritten section (binding_in scope.now) (held_in holders.old) (above + 1) lines.now (held_in holders.new) ops outputs.old outputs.new) }
+    requires few_drains { length drains.old + length lines.now ≤ most_drains }
+    ensures { IfOk result (λ ops. AreWritten section (binding_in scope.now) numbers.now (held_in holders.old) (above + 1) lines.now (held_in holders.new) ops drains.old drains.new outputs.old outputs.new) }
 {
     let mut ops = Items::new(alloc);
-    for at in 0..lines.len() {
-        let statement = (above + at) as u32 + 1;
+    for number in 0..lines.len() {
+        let at = At {
+            section,
+            statement: (above + number) as u32 + 1,
+            first: ops.len(),
+        };
         write_line(
-            alloc, scope, section, &mut ops, outputs, holders, statement, &lines[at],
+            alloc,
+            scope,
+            numbers,
+            at,
+            &mut ops,
+            drains,
+            outputs,
+            holders,
+            &lines[number],
         )?;
     }
     Ok(ops)

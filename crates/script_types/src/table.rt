@@ -1,11 +1,10 @@
 ghost use Rattle.std.specs.Prelude.{◌≡◌, ◌&&◌, ◌==◌, ◌≤◌, length};
 ghost use Rattle.std.specs.Option.{option_copied};
-ghost use Rattle.std.specs.List.{find, list_any, position_or_len};
+ghost use Rattle.std.specs.List.{find, position_or_len};
 ghost use Rattle.text_base.specs.Bytes.{space};
-ghost use Rattle.map_meaning.specs.Table.{ask_at, takes};
+ghost use Rattle.map_meaning.specs.Table.{ask_at, is_length, takes};
 ghost use Rattle.script_types.specs.Names.{first_role, is_sample_word, role_asked};
-ghost use Rattle.script_types.specs.Table.{is_spelled, is_unbuilt_meant, row_for, stands_of, word_row, op_of, asks_drain};
-ghost use Rattle.script_types.specs.Unbuilt.{is_unbuilt_word};
+ghost use Rattle.script_types.specs.Table.{is_spelled, row_for, stands_of, word_row, op_of, asks_drain};
 
 use crate::typed::UsedAs;
 use cell_values::Kind;
@@ -63,25 +62,6 @@ fn find_word<'a>(rows: &'a [Row], word: &[u8]) -> Option<&'a Row>
     None
 }
 
-// Whether what the row stands for is not built.
-fn is_unbuilt_meant(meant: Meant) -> bool
-    ensures { result ≡ is_unbuilt_meant meant }
-{
-    matches!(meant, Meant::Unbuilt)
-}
-
-// Whether one of the rows is written so and not built.
-fn has_unbuilt(rows: &[Row], word: &[u8]) -> bool
-    ensures { result ≡ list_any (λ row. is_spelled row word.now && is_unbuilt_meant row.meant) rows.now }
-{
-    for row in rows {
-        if is_spelled(row, word) && is_unbuilt_meant(row.meant) {
-            return true;
-        }
-    }
-    false
-}
-
 /// The row that is written so and takes this many operands.
 #[tactic(auto, unfolding(crate::specs::Table::row_for))]
 pub fn row_for(word: &[u8], count: usize) -> Option<&'static Row>
@@ -96,14 +76,6 @@ pub fn word_row(word: &[u8]) -> Option<&'static Row>
     ensures { option_copied result ≡ word_row word.now }
 {
     find_word(rows(), word)
-}
-
-/// Whether the word is that of something that is not built.
-#[tactic(auto, unfolding(crate::specs::Unbuilt::is_unbuilt_word))]
-pub fn is_unbuilt_word(word: &[u8]) -> bool
-    ensures { result ≡ is_unbuilt_word word.now }
-{
-    has_unbuilt(rows(), word)
 }
 
 // Whether a word with this place is that of a time series.
@@ -151,8 +123,15 @@ pub fn op_of(meant: Meant) -> Op
 {
     match meant {
         Meant::Op(op) => op,
-        Meant::Step | Meant::Stack | Meant::Sample | Meant::Unbuilt => Op::CopyOf,
+        Meant::Step | Meant::Stack | Meant::Sample | Meant::Mask => Op::CopyOf,
     }
+}
+
+/// Whether the place asks the length of a window.
+pub fn is_length(asked: Ask) -> bool
+    ensures { result ≡ is_length asked }
+{
+    matches!(asked, Ask::Length)
 }
 
 /// Whether the place asks a drain map.

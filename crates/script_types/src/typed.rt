@@ -55,7 +55,7 @@ pub enum Argument {
     /// A table, a series or a stack of this kind, which is the input with this number.
     File { kind: Kind, input: u32 },
     /// The length of a window.
-    Length,
+    Length(u32),
 }
 
 /// A right side at its target.

@@ -5,6 +5,8 @@
 #[cfg(test)]
 mod cells;
 #[cfg(test)]
+mod drains;
+#[cfg(test)]
 mod maps;
 #[cfg(test)]
 mod meaning;
@@ -18,3 +20,5 @@ mod sections;
 mod texts;
 #[cfg(test)]
 mod told;
+#[cfg(test)]
+mod windows;

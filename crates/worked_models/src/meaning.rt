@@ -5,7 +5,7 @@ ghost use Rattle.std.specs.Prelude.{IfOk};
 ghost use Rattle.script_syntax.specs.WellMade.{IsWellMade};
 
 use crate::texts::{program_of, script_of};
-use crate::told::Told::{Area, At, Entry, Fine, Unbuilt};
+use crate::told::Told::{Area, At, Entry, Fine};
 use crate::told::{Told, expect_told};
 use cell_values::Cell::Val;
 use cell_values::Kind;
@@ -201,16 +201,6 @@ static STATEMENTS: [(&str, Told); 127] = [
     ),
 ];
 
-/// Statements with something that is not built, which is told before every fault.
-static NOT_BUILT: [&str; 6] = [
-    "report C = windowtotal(A, 3);",
-    "report C = windowtotal(X, 3);",
-    "report C = areatotal(A, N) + A;",
-    "report C = maptotal(A);",
-    "report C = upstream(A, A);",
-    "A = 1; Q = lddmask(A, B);",
-];
-
 /// Area maps and statements.
 static AREAS: [(&str, &str, Told); 7] = [
     ("m.map", "report C = A;", Fine(1)),
@@ -230,7 +220,7 @@ static PAIRS: [(&str, Told); 7] = [
     ("A = a; Q = 360 : directional;", Entry(2, KindMismatch)),
     ("A = 1; Q = 1;", Area(KindMismatch)),
     ("A = a; Q = 1.0 : ordinal;", Fine(1)),
-    ("A = a : ldd; A = a;", Unbuilt),
+    ("A = a : ldd; A = a;", Entry(2, NameClash)),
 ];
 
 // The script with these entries, this area map and these statements of `initial`.
@@ -258,14 +248,6 @@ fn expect_answer(
 fn first_faults_of_statements(rt: HostRuntime) -> Result<(), Fail> {
     for (text, expected) in &STATEMENTS {
         expect_answer(&rt, rt.alloc(), ENTRIES, "A", text, *expected)?;
-    }
-    Ok(())
-}
-
-#[test]
-fn what_is_not_built(rt: HostRuntime) -> Result<(), Fail> {
-    for text in &NOT_BUILT {
-        expect_answer(&rt, rt.alloc(), ENTRIES, "A", text, Unbuilt)?;
     }
     Ok(())
 }

@@ -2,7 +2,7 @@
 //! worked out from the rules of the language.
 
 use crate::meaning::sums;
-use crate::told::Told::{Area, At, Timed, Unbuilt};
+use crate::told::Told::{Area, At, Timed};
 use crate::told::{Told, expect_told};
 use script_types::MeaningKind::{
     BadStackName, KindMismatch, NameClash, NotAssigned, TooMany, UnknownName, WrongSection,
@@ -20,7 +20,7 @@ const ENTRIES: &str =
     F5 = p0000000.005; F0 = p0000000.000; FP = p00000000005; FS = p000000.0005; FL = p0000100.000; Wet9 = rain0000.009;";
 
 /// The sections of scripts with four steps.
-static SECTIONS: [(&str, Told); 141] = [
+static SECTIONS: [(&str, Told); 139] = [
     // time stands in `dynamic` alone
     ("initial X = time(); dynamic Y = 1;", At(1, WrongSection)),
     (
@@ -262,9 +262,6 @@ static SECTIONS: [(&str, Told); 141] = [
     ("dynamic report Y = N; report Y = A;", At(2, KindMismatch)),
     ("dynamic report I = A;", At(1, KindMismatch)),
     ("dynamic report V = A + Q;", At(1, UnknownName)),
-    // what is not built is told first
-    ("dynamic report V = windowtotal(X, 3);", Unbuilt),
-    ("initial X = time(); dynamic Y = maptotal(A);", Unbuilt),
 ];
 
 /// The last step of a script, and its sections.

@@ -16,8 +16,6 @@ pub enum Told {
     Fine(usize),
     /// It has a program of so many operations of `initial`, and of so many of `dynamic`.
     Timed(usize, usize),
-    /// It has something that is not built.
-    Unbuilt,
     /// A fault of an entry of `binding`.
     Entry(u32, MeaningKind),
     /// A fault of the area map.
@@ -26,7 +24,7 @@ pub enum Told {
     At(u32, MeaningKind),
 }
 
-use Told::{Area, At, Entry, Fine, Timed, Unbuilt};
+use Told::{Area, At, Entry, Fine, Timed};
 
 // What a script is told.
 fn answer(alloc: Global, script: &Script) -> Result<Told, AllocError>
@@ -38,7 +36,6 @@ fn answer(alloc: Global, script: &Script) -> Result<Told, AllocError>
         } else {
             Fine(program.initial.len())
         }),
-        Err(LowerEnd::Unbuilt) => Ok(Unbuilt),
         Err(LowerEnd::Memory) => Err(AllocError),
         Err(LowerEnd::Meaning(fault)) => Ok(match fault.at {
             Place::Binding(entry) => Entry(entry, fault.kind),

@@ -38,7 +38,6 @@ use Rattle.script_types.specs.inside.Stacks.{with_uses}
 abbrev pub TellsMeaning : {A : Type 0} → Result A LowerEnd → Result A MeaningFault → Type 0
 TellsMeaning (Ok x) value = value ≡ Ok x
 TellsMeaning (Err (lower.Meaning fault)) value = value ≡ Err fault
-TellsMeaning (Err lower.Unbuilt) value = ⊥
 TellsMeaning (Err lower.Memory) value = ⊤
 
 -- ---- bindings
@@ -52,7 +51,6 @@ abbrev pub GivesPlaces : Result (Names ℕ) LowerEnd → List Binding → Type 0
 GivesPlaces (Ok places) bindings =
     (bindings_pass [] bindings ≡ Ok 0) × ((name : List ℕ) → look places.values name ≡ place_from 0 bindings name)
 GivesPlaces (Err (lower.Meaning fault)) bindings = bindings_pass [] bindings ≡ Err fault
-GivesPlaces (Err lower.Unbuilt) bindings = ⊥
 GivesPlaces (Err lower.Memory) bindings = ⊤
 
 -- the binding is an input that is used, by the tables of targets and roles
@@ -132,7 +130,6 @@ Adds (Ok count) script section above s scope lines =
     (l : Line) × (next_line script section above s ≡ Ok l) × (lines ≡ above ++ l ∷ []) × (l.section ≡ section) ×
     (scope.section ≡ section) × StandsBelow script scope lines × IsCount section count lines
 Adds (Err (lower.Meaning fault)) script section above s scope lines = next_line script section above s ≡ Err fault
-Adds (Err lower.Unbuilt) script section above s scope lines = ⊥
 Adds (Err lower.Memory) script section above s scope lines = ⊤
 
 -- the lines of a section were added, and the tables say what names are below them
@@ -148,7 +145,6 @@ pub record IsAdded (script : Script) (section : Section) (above : List Line) (ss
 abbrev pub AddsAll : Result (Unit {0}) LowerEnd → Script → Section → List Line → List Statement → Scope → List Line → Type 0
 AddsAll (Ok x) script section above ss scope lines = IsAdded script section above ss scope lines
 AddsAll (Err (lower.Meaning fault)) script section above ss scope lines = lines_below script section above ss ≡ Err fault
-AddsAll (Err lower.Unbuilt) script section above ss scope lines = ⊥
 AddsAll (Err lower.Memory) script section above ss scope lines = ⊤
 
 -- the end of a statement, with its place
@@ -166,7 +162,6 @@ reports_pass steps bound taken k lines = passed (report_checks steps bound taken
 abbrev pub GivesReports : Result (Unit {0}) LowerEnd → Result ℕ MeaningFault → Type 0
 GivesReports (Ok x) value = value ≡ Ok 0
 GivesReports (Err (lower.Meaning fault)) value = value ≡ Err fault
-GivesReports (Err lower.Unbuilt) value = ⊥
 GivesReports (Err lower.Memory) value = ⊤
 
 -- ---- the whole
@@ -175,7 +170,6 @@ GivesReports (Err lower.Memory) value = ⊤
 abbrev pub BeginsPass : Result Scope LowerEnd → Script → Type 0
 BeginsPass (Ok scope) script = (bindings_pass [] script.bindings ≡ Ok 0) × StandsBelow script scope []
 BeginsPass (Err (lower.Meaning fault)) script = bindings_pass [] script.bindings ≡ Err fault
-BeginsPass (Err lower.Unbuilt) script = ⊥
 BeginsPass (Err lower.Memory) script = ⊤
 
 -- what the tests of the area map tell
@@ -193,12 +187,10 @@ pub record IsSettled (script : Script) (s : Settled) : Type 0 where
 abbrev pub GivesLines : Result Settled LowerEnd → Script → Type 0
 GivesLines (Ok s) script = (all_lines script ≡ Ok s.lines) × IsSettled script s
 GivesLines (Err (lower.Meaning fault)) script = all_lines script ≡ Err fault
-GivesLines (Err lower.Unbuilt) script = ⊥
 GivesLines (Err lower.Memory) script = ⊤
 
 -- an answer gives the settled statements, or the first fault, or there was no memory
 abbrev pub SettlesScript : Result Settled LowerEnd → Script → Type 0
 SettlesScript (Ok s) script = (meaning script ≡ Ok s.lines) × IsSettled script s
 SettlesScript (Err (lower.Meaning fault)) script = meaning script ≡ Err fault
-SettlesScript (Err lower.Unbuilt) script = ⊥
 SettlesScript (Err lower.Memory) script = ⊤

@@ -1,17 +1,19 @@
 -- Whether settled statements fit where they stand.
-use Rattle.std.specs.Prelude.{◌≡◌, ◌<◌, ℕ, Bool, true, List, [], ◌∷◌, ◌++◌, Option, None, IfSome, if◌then◌else◌, ⊤}
+use Rattle.std.specs.Prelude.{◌≡◌, ◌<◌, ℕ, Bool, true, false, List, [], ◌∷◌, ◌++◌, Option, None, IfSome, if◌then◌else◌, ⊤}
 use Rattle.std.specs.Option.{is_some}
 use Rattle.cell_values.specs.declared.kind.Kind.{Kind}
 use Rattle.script_syntax.specs.declared.tree.Script.{Script}
 use Rattle.map_meaning.specs.declared.program.InputUse.{InputUse}
+use Rattle.cell_values.specs.declared.kind.Kind.TheVariants.{Ldd}
+use Rattle.map_meaning.specs.Table.{is_kind}
 use Rattle.map_meaning.specs.Trees.{meaning_of}
 use Rattle.script_types.specs.declared.typed.Line.{Line}
 use Rattle.script_types.specs.declared.typed.Section.{Section}
-use Rattle.script_types.specs.declared.typed.Section.TheVariants.{Dynamic}
+use Rattle.script_types.specs.declared.typed.Section.TheVariants.{Initial, Dynamic}
 use Rattle.script_types.specs.Lowered.{inputs_of}
 use Rattle.script_types.specs.Names.{is_sampled}
 use Rattle.script_types.specs.Statements.{is_dynamic, kind_above, operations_of}
-use Rattle.script_types.specs.inside.Fits.{Ground, fits, is_ids}
+use Rattle.script_types.specs.inside.Fits.{Ground, SideFits, is_ids}
 
 -- the inputs of a program, and the names that are targets of time series, which are not read
 pub record Frame : Type 0 where
@@ -32,12 +34,14 @@ ground_at frame section above =
     record { inputs = frame.inputs; above = readable frame.sampled above; in_steps = is_dynamic section }
 
 -- A statement fits below others: its right side fits where it stands, and has the kind of the statement, which is also the
--- kind of the statements above with its target; it has an operation, or is sampled in `dynamic` at a map of ids.
+-- kind of the statements above with its target; it has an operation, or is sampled in `dynamic` at a map of ids, or is a drain
+-- map of `initial`.
 pub record LineFits (frame : Frame) (above : List Line) (l : Line) : Type 0 where
-  pub value : fits (ground_at frame l.section above) l.statement.value ≡ true
+  pub value : SideFits (ground_at frame l.section above) l.statement.value
   pub kind : (meaning_of l.statement.value).kind ≡ l.kind
   pub agrees : IfSome (kind_above above l.statement.target) (λ kind. kind ≡ l.kind)
-  pub operation : l.sample ≡ None → 0 < operations_of l.statement.value
+  pub operation : l.sample ≡ None → is_kind Ldd l.kind ≡ false → 0 < operations_of l.statement.value
+  pub drain : is_kind Ldd l.kind ≡ true → (l.section ≡ Initial) × (l.sample ≡ None)
   pub ids : IfSome l.sample (λ ids. is_ids frame.inputs ids ≡ true)
   pub sampled : is_some l.sample ≡ true → frame.sampled l.statement.target ≡ true
   pub in_steps : is_some l.sample ≡ true → l.section ≡ Dynamic

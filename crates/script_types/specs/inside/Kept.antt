@@ -1,11 +1,12 @@
 -- Which operations are kept, as marks say it.
-use Rattle.std.specs.Prelude.{◌≡◌, ◌<◌, ◌+◌, ◌||◌, ℕ, Bool, false, List, [], ◌∷◌, length, slice_index_or}
+use Rattle.std.specs.Prelude.{◌≡◌, ◌<◌, ◌+◌, ◌==◌, ◌&&◌, ◌||◌, nat_lt, ℕ, Bool, false, List, [], ◌∷◌, length, slice_index_or}
 use Rattle.std.specs.List.{list_any}
+use Rattle.map_meaning.specs.declared.program.DrainUse.{DrainUse}
 use Rattle.map_meaning.specs.declared.program.Operand.{Operand}
 use Rattle.map_meaning.specs.declared.program.Operation.{Operation}
 use Rattle.map_meaning.specs.declared.program.OutputUse.{OutputUse}
 use Rattle.script_types.specs.declared.kept.Written.{Written}
-use Rattle.map_meaning.specs.Programs.{is_initial, is_last, is_now, operands_of}
+use Rattle.map_meaning.specs.Programs.{is_initial, is_last, is_mask_by, is_now, is_read_behind, operands_of}
 
 -- the operation with this number is marked
 abbrev pub is_marked : List Bool → ℕ → Bool
@@ -33,14 +34,40 @@ abbrev pub kept_where : (ℕ → Bool) → ℕ → List Operation → List Opera
 kept_where keep n [] = []
 kept_where keep n (o ∷ more) = record o { kept = keep n } ∷ kept_where keep (n + 1) more
 
--- The same was written, with each operation kept exactly where a step reads its map, or an output writes it.
+-- some of these drain maps is masked by an operand that passes the test
+abbrev pub some_mask : (Operand → Bool) → List DrainUse → Bool
+some_mask test drains = list_any (λ d. is_mask_by test d.from) drains
+
+-- one of these drain maps is computed behind so many operations
+abbrev pub begins_stage : ℕ → List DrainUse → Bool
+begins_stage n drains = list_any (λ d. d.after == n) drains
+
+-- the marks are those of the operations that stages begin with
+abbrev pub AreBegins : List Bool → List DrainUse → Type 0
+AreBegins begins drains = (n : ℕ) → n < length begins → is_marked begins n ≡ begins_stage n drains
+
+-- the operand may be the map of the operation of `initial` with this number, which stands before the begin of a stage
+abbrev pub is_earlier : ℕ → ℕ → Operand → Bool
+is_earlier begin n x = is_initial n x && nat_lt n begin
+
+-- a step, a mask or a later stage reads the map of the operation of `initial` with this number, or an output writes it
+abbrev pub is_kept_by : Written → ℕ → Bool
+is_kept_by w n =
+    some_operand (is_initial n) w.dynamic || some_output (is_initial n) w.outputs || some_mask (is_initial n) w.drains ||
+    is_read_behind w.drains n 0 w.initial
+
+-- the next step reads the map of the operation of `dynamic` with this number, or an output writes it
+abbrev pub is_kept_in_steps_by : Written → ℕ → Bool
+is_kept_in_steps_by w n = some_operand (is_last n) w.dynamic || some_output (is_now_or_last n) w.outputs
+
+-- The same was written, with each operation kept exactly where a step, a mask or a later stage reads its map, or an output
+-- writes it.
 pub record KeepsOperations (old new : Written) : Type 0 where
+  pub drains : new.drains ≡ old.drains
   pub outputs : new.outputs ≡ old.outputs
   pub keep : ℕ → Bool
   pub initial : new.initial ≡ kept_where keep 0 old.initial
-  pub kept : (n : ℕ) → n < length old.initial →
-      keep n ≡ (some_operand (is_initial n) old.dynamic || some_output (is_initial n) old.outputs)
+  pub kept : (n : ℕ) → n < length old.initial → keep n ≡ is_kept_by old n
   pub step_keep : ℕ → Bool
   pub dynamic : new.dynamic ≡ kept_where step_keep 0 old.dynamic
-  pub step_kept : (n : ℕ) → n < length old.dynamic →
-      step_keep n ≡ (some_operand (is_last n) old.dynamic || some_output (is_now_or_last n) old.outputs)
+  pub step_kept : (n : ℕ) → n < length old.dynamic → step_keep n ≡ is_kept_in_steps_by old n

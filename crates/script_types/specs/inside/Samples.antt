@@ -9,4 +9,4 @@ abbrev pub map_in : Option Argument → Option Value
 map_in None = None
 map_in (Some (argument.Map v)) = Some v
 map_in (Some (argument.File kind number)) = None
-map_in (Some argument.Length) = None
+map_in (Some (argument.Length length)) = None

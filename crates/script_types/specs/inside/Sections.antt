@@ -1,13 +1,15 @@
 -- A section of a program as its operations are written: its operations, its maps, and the operands that may be read there.
-use Rattle.std.specs.Prelude.{◌≡◌, ◌<◌, ℕ, ◌+◌, List, [], ◌∷◌, ◌++◌, Some, ⊤, false}
+use Rattle.std.specs.Prelude.{◌≡◌, ◌<◌, ℕ, ◌+◌, List, [], ◌∷◌, ◌++◌, Some, ⊤, false, true}
 use Rattle.cell_values.specs.declared.kind.Kind.{Kind}
+use Rattle.cell_values.specs.declared.kind.Kind.TheVariants.{Ldd}
 use Rattle.map_meaning.specs.declared.known.Span.{Span}
 use Rattle.map_meaning.specs.declared.program.Operand.{Operand}
 use Rattle.map_meaning.specs.declared.program.Operand.TheVariants as from
 use Rattle.map_meaning.specs.declared.program.Operation.{Operation}
 use Rattle.map_meaning.specs.declared.program.Program.{Program}
+use Rattle.map_meaning.specs.declared.program.Role.TheVariants.{Grid}
 use Rattle.map_meaning.specs.Evaluation.{Done, operand_map}
-use Rattle.map_meaning.specs.Maps.{WholeMap}
+use Rattle.map_meaning.specs.Maps.{WholeMap, nth}
 use Rattle.map_meaning.specs.Programs.{IsBelow, IsBelowNow, IsOperationOf, is_unused, operand_kind}
 use Rattle.map_meaning.specs.Scenes.{Scene}
 use Rattle.map_meaning.specs.Spans.{step_span, whole_span}
@@ -15,7 +17,8 @@ use Rattle.map_meaning.specs.Trees.{Environment}
 use Rattle.script_types.specs.declared.typed.Section.{Section}
 use Rattle.script_types.specs.declared.typed.Section.TheVariants.{Initial, Dynamic}
 use Rattle.script_types.specs.Statements.{is_dynamic}
-use Rattle.script_types.specs.inside.Fits.{Ground}
+use Rattle.script_types.specs.inside.Drains.{IsDrainBelow, drain_number}
+use Rattle.script_types.specs.inside.Fits.{Ground, is_input_of}
 
 -- ---- operations and maps
 
@@ -36,8 +39,10 @@ maps_in Dynamic done = done.dynamic
 
 -- the same with these maps of a section
 abbrev pub with_maps : Section → Done → List WholeMap → Done
-with_maps Initial done maps = record { initial = done.initial ++ maps; dynamic = done.dynamic; last = done.last }
-with_maps Dynamic done maps = record { initial = done.initial; dynamic = done.dynamic ++ maps; last = done.last }
+with_maps Initial done maps =
+    record { initial = done.initial ++ maps; dynamic = done.dynamic; last = done.last; drains = done.drains }
+with_maps Dynamic done maps =
+    record { initial = done.initial; dynamic = done.dynamic ++ maps; last = done.last; drains = done.drains }
 
 -- the operations of a section, as a span at a step
 abbrev pub span_in : Section → Program → ℕ → Span
@@ -63,10 +68,11 @@ pub record IsGiven (program : Program) (section : Section) (n : ℕ) (x : Operan
   pub read : MayRead program section n x
   pub used : is_unused x ≡ false
 
--- and it has this kind
-pub record IsOperandOf (program : Program) (section : Section) (n : ℕ) (kind : Kind) (x : Operand) : Type 0 where
+-- and it has this kind; where it is a drain map it is one of the first m
+pub record IsOperandOf (program : Program) (section : Section) (n m : ℕ) (kind : Kind) (x : Operand) : Type 0 where
   pub kind_is : operand_kind program x ≡ Some kind
   pub given : IsGiven program section n x
+  pub drain : IsDrainBelow m kind x
 
 -- ---- names and their operands
 
@@ -74,11 +80,15 @@ pub record IsOperandOf (program : Program) (section : Section) (n : ℕ) (kind :
 abbrev pub Holder : Type 0
 Holder = List ℕ → Operand
 
--- the program has these inputs, and each name that may be read has an operand of its kind, from this number on
+-- The program has these inputs, of which each drain map is one of its own, and each name that may be read has an operand of its
+-- kind, from this number on, where so many drain maps are written.
 pub record Around (section : Section) (g : Ground) (holder : Holder) (n : ℕ) (program : Program) : Type 0 where
+  pub drains : ℕ
   pub inputs : program.inputs ≡ g.inputs
   pub steps : g.in_steps ≡ is_dynamic section
-  pub held : (name : List ℕ) (kind : Kind) → g.above name ≡ Some kind → IsOperandOf program section n kind (holder name)
+  pub held : (name : List ℕ) (kind : Kind) → g.above name ≡ Some kind → IsOperandOf program section n drains kind (holder name)
+  pub drained : (k : ℕ) → is_input_of g.inputs Grid Ldd k ≡ true →
+      IsOperandOf program section n drains Ldd (from.Drain (drain_number g.inputs k))
 
 -- the section begins with these operations
 pub record IsBegun (section : Section) (ops : List Operation) (program : Program) : Type 0 where
@@ -90,10 +100,10 @@ pub record Stands (section : Section) (g : Ground) (holder : Holder) (first : �
   pub around : Around section g holder first program
   pub begins : IsBegun section ops program
 
--- each name that may be read has the map of its operand
-abbrev pub HoldsMaps : Ground → Holder → Scene → Environment → Done → Type 0
-HoldsMaps g holder scene names done =
-    (name : List ℕ) (kind : Kind) → g.above name ≡ Some kind → names name ≡ operand_map scene done (holder name)
+-- each name that may be read has the map of its operand, and each input that is a drain map has its codes
+pub record HoldsMaps (g : Ground) (holder : Holder) (scene : Scene) (names : Environment) (done : Done) : Type 0 where
+  pub named : (name : List ℕ) (kind : Kind) → g.above name ≡ Some kind → names name ≡ operand_map scene done (holder name)
+  pub drained : (k : ℕ) → is_input_of g.inputs Grid Ldd k ≡ true → nth scene.inputs k ≡ nth done.drains (drain_number g.inputs k)
 
 -- ---- forms
 

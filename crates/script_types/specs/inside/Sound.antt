@@ -1,8 +1,8 @@
 -- Whether a settled expression keeps to the table of operations.
-use Rattle.std.specs.Prelude.{ℕ, ◌+◌, ◌&&◌, Bool, true, List, [], ◌∷◌, length, map}
+use Rattle.std.specs.Prelude.{ℕ, ◌+◌, ◌&&◌, Bool, true, false, List, [], ◌∷◌, length, map}
 use Rattle.std.specs.List.{list_all}
 use Rattle.cell_values.specs.declared.kind.Kind.{Kind}
-use Rattle.cell_values.specs.declared.kind.Kind.TheVariants.{Scalar}
+use Rattle.cell_values.specs.declared.kind.Kind.TheVariants.{Boolean, Scalar, Ldd}
 use Rattle.cell_values.specs.declared.cell.Cell.{Cell}
 use Rattle.cell_values.specs.declared.cell.Cell.TheVariants.{Mv, Val}
 use Rattle.cell_values.specs.Kinds.{is_value}
@@ -34,6 +34,11 @@ pub record Checked : Type 0 where
   pub kind : Kind
   pub sound : Bool
 
+-- these are the kinds of a drain map and of its mask
+abbrev pub are_mask_kinds : List Kind → Bool
+are_mask_kinds (Ldd ∷ Boolean ∷ []) = true
+are_mask_kinds _ = false
+
 -- an expression, from its operands
 abbrev pub checked_level : Tree-F Checked → Checked
 checked_level (Tree-F.Number kind cell) = record { kind = kind; sound = is_cell kind cell }
@@ -43,7 +48,9 @@ checked_level (Tree-F.Stack kind n) = record { kind = kind; sound = true }
 checked_level (Tree-F.Name kind name) = record { kind = kind; sound = true }
 checked_level (Tree-F.Call kind op operands) =
     record { kind = kind; sound = list_all (λ c. c.sound) operands && has_kinds (row_of op) (map (λ c. c.kind) operands) kind }
-checked_level (Tree-F.LookUp kind op file operands) =
+checked_level (Tree-F.Mask operands) =
+    record { kind = Ldd; sound = list_all (λ c. c.sound) operands && are_mask_kinds (map (λ c. c.kind) operands) }
+checked_level (Tree-F.CallWith kind op file window operands) =
     record { kind = kind; sound = list_all (λ c. c.sound) operands && has_kinds (map_row (row_of op)) (map (λ c. c.kind) operands) kind }
 
 -- an expression with its kind
