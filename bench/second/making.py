@@ -20,9 +20,9 @@ STEPS = {1: (1, -1), 2: (1, 0), 3: (1, 1), 4: (0, -1), 5: (0, 0), 6: (0, 1), 7: 
 SIZES = ((1, 1), (1, 4), (1, 7), (2, 3), (3, 3), (4, 4), (5, 3), (2, 17), (9, 8))
 STRAYS = (
     # names: not there, not assigned yet, of another kind or role
-    "Nowhere", "X1", "X2", "X3", "X4", "X9", "T1", "C0", "S0", "N0", "L0", "W0",
+    "Nowhere", "X1", "X2", "X3", "X4", "X9", "Q1", "C0", "S0", "N0", "L0", "P0",
     # calls out of their places
-    "lddmask(L0, B0)", "lddmask(5, B0)", "time()", "timeinput(W0)", "timeinput(W1)", "timeinput(S0)", "timeoutput(N0, S0)",
+    "lddmask(L0, B0)", "lddmask(5, B0)", "time()", "timeinput(P0)", "timeinput(P1)", "timeinput(S0)", "timeoutput(N0, S0)",
     "timeinputscalar(R, 1)", "lookupscalar(S0, 1)",
     # words that are none
     "average(1)", "copy(S0)", "negative(S0)", "lookupldd(Ts1, 1)", "timeinputldd(Rs, 1)",

@@ -26,7 +26,7 @@ use Rattle.script_types.specs.inside.FitLines.{Frame, LineFits, LinesFit, ground
 use Rattle.script_types.specs.inside.Fits.{is_input_of}
 use Rattle.script_types.specs.inside.Programs.{nothing_held}
 use Rattle.script_types.specs.inside.Sections.{Around, Holder, IsOperandOf}
-use Rattle.script_types.specs.inside.Written.{Begins, HasLastKind, HaveValues, IsMade, carried_or, drains_with, gives_name, held_before, held_below, last_number, last_operand, line_operand}
+use Rattle.script_types.specs.inside.Written.{SectionBegins, HasLastKind, HaveValues, IsMade, carried_or, drains_with, gives_name, held_before, held_below, last_number, last_operand, line_operand}
 use Rattle.script_types.proofs.DrainInputs.{drain-below, drain-there, uses-due}
 use Rattle.script_types.proofs.InputForms.{at-some}
 use Rattle.script_types.proofs.Steps.{above-push}
@@ -182,11 +182,11 @@ module _ (frame : Frame) (first later : List Line) (fit : LinesFit frame first l
   }
 
   -- the program begins with what was written of `initial`
-  pub begins-initial : Begins Initial (ground_at frame Initial []) nothing_held uses made program.initial program
+  pub begins-initial : SectionBegins Initial (ground_at frame Initial []) nothing_held uses made program.initial program
   unfolding around-initial
   begins-initial = record { around = around-initial; count = refl; begun = record { more = []; is = sym (append-nil program.initial) }; due = uses-due 0 frame.inputs; more_drains = more; drains_are = drains-are }
 
   -- and each of its steps with what was written of `dynamic`
-  pub begins-dynamic : Begins Dynamic (ground_at frame Dynamic first) starts (uses ++ made) more program.dynamic program
+  pub begins-dynamic : SectionBegins Dynamic (ground_at frame Dynamic first) starts (uses ++ made) more program.dynamic program
   unfolding around-dynamic
   begins-dynamic = record { around = around-dynamic; count = refl; begun = record { more = []; is = sym (append-nil program.dynamic) }; due = tt; more_drains = []; drains_are = drains-are ∙ sym (append-nil ((uses ++ made) ++ more)) }

@@ -22,11 +22,11 @@ use Rattle.map_meaning.specs.Trees.{TreeMeaning, meaning_of}
 use Rattle.map_meaning.proofs.Callers.{meaning_of-Mask}
 use Rattle.script_types.specs.declared.typed.Section.{Section}
 use Rattle.script_types.specs.declared.typed.Section.TheVariants.{Initial}
-use Rattle.script_types.specs.inside.Drains.{IsDrainBelow, drain_in}
+use Rattle.script_types.specs.inside.Drains.{IsDrainBelow, drain_named}
 use Rattle.script_types.specs.inside.Fits.{Ground, SideFits, fits}
 use Rattle.script_types.specs.inside.Sections.{Holder, Stands, span_in}
 use Rattle.script_types.specs.inside.Sound.{are_mask_kinds, is_sound}
-use Rattle.script_types.specs.inside.Values.{AreDrainsOf, AreGiven, Emits, EmitsAll, EmitsDrain}
+use Rattle.script_types.specs.inside.Values.{AreDrainOperands, AreGiven, Emits, EmitsAll, EmitsDrain}
 use Rattle.script_types.proofs.FitLemmas.{fits-mask-is}
 use Rattle.script_types.proofs.NodeLemmas.{mask-is-sound}
 use Rattle.script_types.proofs.SectionLemmas.{drain-is}
@@ -40,7 +40,7 @@ bind-same (Err e) f g h = refl
 -- ---- the same drain map
 
 -- an expression that is a drain map
-pub emits-same : (s : Section) (g : Ground) (holder : Holder) (old new : List Operation) (statement first : ℕ) (t : Tree) (x : Operand) → Emits s g holder old new statement first t x → EmitsDrain s g holder old new statement first t (drain.Same (drain_in x))
+pub emits-same : (s : Section) (g : Ground) (holder : Holder) (old new : List Operation) (statement first : ℕ) (t : Tree) (x : Operand) → Emits s g holder old new statement first t x → EmitsDrain s g holder old new statement first t (drain.Same (drain_named x))
 emits-same s g holder old new statement first t x e = record {
   added = e.added;
   appended = e.appended;
@@ -54,8 +54,8 @@ emits-same s g holder old new statement first t x e = record {
 
 -- its operands: a drain map and a boolean
 record IsMasking (m : ℕ) (program : Program) (n : ℕ) (xs : List Operand) : Type 0 where
-  of_is : slice_index_or xs 0 from.Unused ≡ from.Drain (drain_in (slice_index_or xs 0 from.Unused))
-  below : drain_in (slice_index_or xs 0 from.Unused) < m
+  of_is : slice_index_or xs 0 from.Unused ≡ from.Drain (drain_named (slice_index_or xs 0 from.Unused))
+  below : drain_named (slice_index_or xs 0 from.Unused) < m
   by_kind : operand_kind program (slice_index_or xs 1 from.Unused) ≡ Some Boolean
 
 mask-kinds : (ks : List Kind) → are_mask_kinds ks ≡ true → ks ≡ Ldd ∷ Boolean ∷ []
@@ -66,10 +66,10 @@ kinds-twice : (ts : List Tree) → map (λ (m : TreeMeaning). m.kind) (map meani
 kinds-twice [] = refl
 kinds-twice (t ∷ ts) = ap (λ ks. kind-of t ∷ ks) (kinds-twice ts)
 
-masking : (m : ℕ) (program : Program) (n : ℕ) (xs : List Operand) (ks : List Kind) → ks ≡ Ldd ∷ Boolean ∷ [] → AreDrainsOf m ks xs → map (operand_kind program) xs ≡ map Some ks → IsMasking m program n xs
-masking m program n xs ks e a h = two xs (subst (λ js. AreDrainsOf m js xs) e a) (h ∙ ap (map Some) e)
+masking : (m : ℕ) (program : Program) (n : ℕ) (xs : List Operand) (ks : List Kind) → ks ≡ Ldd ∷ Boolean ∷ [] → AreDrainOperands m ks xs → map (operand_kind program) xs ≡ map Some ks → IsMasking m program n xs
+masking m program n xs ks e a h = two xs (subst (λ js. AreDrainOperands m js xs) e a) (h ∙ ap (map Some) e)
   where
-    two : (xs : List Operand) → AreDrainsOf m (Ldd ∷ Boolean ∷ []) xs → map (operand_kind program) xs ≡ Some Ldd ∷ Some Boolean ∷ [] → IsMasking m program n xs
+    two : (xs : List Operand) → AreDrainOperands m (Ldd ∷ Boolean ∷ []) xs → map (operand_kind program) xs ≡ Some Ldd ∷ Some Boolean ∷ [] → IsMasking m program n xs
     two [] a h = absurd (let z = h in cc)
     two (x ∷ []) a h = absurd (let z = h in cc)
     two (x ∷ y ∷ ys) a h = let d = drain-is m x a.0 in record { of_is = d.0; below = d.1; by_kind = (let k : operand_kind program y ≡ Some Boolean = cc in k) }
@@ -92,7 +92,7 @@ mask-value scene (Err e) xs d h = refl
 mask-value scene (Ok after) xs d h = ap (λ m. Ok (masked_map scene m (nth (map (operand_map scene after) xs) 1))) (nth-map scene after xs 0 ∙ ap (operand_map scene after) h) ∙ ap (λ m. Ok (masked_map scene (nth after.drains d) m)) (nth-map scene after xs 1)
 
 -- a drain map and its mask
-pub emits-mask : (s : Section) (g : Ground) (holder : Holder) (old new : List Operation) (statement first : ℕ) (t : Tree) (args : List Tree) (xs : List Operand) → t ≡ tree.Mask args → EmitsAll s g holder old new statement first args xs → EmitsDrain s g holder old new statement first t (drain.Mask (drain_in (slice_index_or xs 0 from.Unused)) (slice_index_or xs 1 from.Unused))
+pub emits-mask : (s : Section) (g : Ground) (holder : Holder) (old new : List Operation) (statement first : ℕ) (t : Tree) (args : List Tree) (xs : List Operand) → t ≡ tree.Mask args → EmitsAll s g holder old new statement first args xs → EmitsDrain s g holder old new statement first t (drain.Mask (drain_named (slice_index_or xs 0 from.Unused)) (slice_index_or xs 1 from.Unused))
 emits-mask s g holder old new statement first t args xs ht a = record {
   added = a.added;
   appended = a.appended;
@@ -101,7 +101,7 @@ emits-mask s g holder old new statement first t args xs ht a = record {
       let m = is-masking sound program st in
       ap (λ (w : TreeMeaning). w.value (record { scene = scene; names = names; statement = statement }) (length old - first)) (ap meaning_of ht ∙ meaning_of-Mask args)
       ∙ ap (λ r. r >>= λ maps. Ok (masked_map scene (nth maps 0) (nth maps 1))) (a.values (mask-is-sound t args ht sound).operands program scene step names done st n h)
-      ∙ mask-value scene (operation_values program scene (span_in s program step) done a.added) xs (drain_in (slice_index_or xs 0 from.Unused)) m.of_is;
+      ∙ mask-value scene (operation_values program scene (span_in s program step) done a.added) xs (drain_named (slice_index_or xs 0 from.Unused)) m.of_is;
   formed = λ sound ldd initial program st.
       let m = is-masking sound program st in
       let f = a.formed (mask-is-sound t args ht sound).operands program st in

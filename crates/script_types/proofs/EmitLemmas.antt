@@ -31,12 +31,12 @@ use Rattle.map_meaning.proofs.Callers.{meaning_of-Input, meaning_of-Name, meanin
 use Rattle.script_types.specs.declared.typed.Section.{Section}
 use Rattle.script_types.specs.declared.typed.Section.TheVariants.{Initial, Dynamic}
 use Rattle.script_types.specs.Statements.{is_dynamic, operations_of}
-use Rattle.script_types.specs.inside.Drains.{IsDrainBelow, drain_in, drain_number, drain_numbers}
+use Rattle.script_types.specs.inside.Drains.{IsDrainBelow, drain_named, drain_number, drain_numbers}
 use Rattle.script_types.specs.inside.Fits.{Ground, fits, is_input_of}
-use Rattle.script_types.specs.inside.Nodes.{IsCall, IsLeaf, first_place}
+use Rattle.script_types.specs.inside.Nodes.{IsCall, IsLeaf, first_map_place}
 use Rattle.script_types.specs.inside.Sections.{HaveForm, Holder, HoldsMaps, IsGiven, MayRead, NamesBefore, Stands, maps_in, own_operand, span_in, with_maps}
 use Rattle.script_types.specs.inside.Sound.{is_cell, is_sound}
-use Rattle.script_types.specs.inside.Values.{AllBefore, AreDrainsOf, AreGiven, Emits, EmitsAll, HasOperands}
+use Rattle.script_types.specs.inside.Values.{AllBefore, AreDrainOperands, AreGiven, Emits, EmitsAll, HasOperands}
 use Rattle.script_types.proofs.FitLemmas.{HasInput, both-left, both-right, fits-grid, fits-input-is, fits-name, fits-number-is, fits-stack, fits-stack-is, fits-time, not-true}
 use Rattle.script_types.proofs.InputForms.{input-form, input-form-kind}
 use Rattle.script_types.proofs.NodeLemmas.{CallFits, call-count, call-kind, call-meaning, call-sound}
@@ -260,7 +260,7 @@ emits-push s g holder old mid new statement first ts xs t x hf a c =
       count = length-append a.added c.added ∙ ap (λ n. n + length c.added) la ∙ ap (λ n. count_in (map meaning_of ts) + n) c.count ∙ sym (in-push (map meaning_of ts) (meaning_of t)) ∙ ap count_in (sym ms);
       as_many = length-append xs (x ∷ []) ∙ ap (λ n. n + 1) a.as_many ∙ sym (length-append ts (t ∷ []));
       kinds = λ program st. map-append (operand_kind program) xs (x ∷ []) ∙ ap (λ ks. ks ++ operand_kind program x ∷ []) (a.kinds program (less program st)) ∙ ap (λ k. map Some (map (λ m. m.kind) (map meaning_of ts)) ++ k ∷ []) (c.kind program st) ∙ sym (map-append Some (map (λ m. m.kind) (map meaning_of ts)) ((meaning_of t).kind ∷ [])) ∙ ap (map Some) (sym (map-append (λ m. m.kind) (map meaning_of ts) (meaning_of t ∷ []))) ∙ ap (λ ms. map Some (map (λ m. m.kind) ms)) (sym ms);
-      drains = λ program st. subst (λ ks. AreDrainsOf st.around.drains ks (xs ++ x ∷ [])) (sym (map-append (λ (m : TreeMeaning). m.kind) (map meaning_of ts) (meaning_of t ∷ [])) ∙ ap (map (λ (m : TreeMeaning). m.kind)) (sym ms)) (all-drains-push st.around.drains (map (λ (m : TreeMeaning). m.kind) (map meaning_of ts)) xs (meaning_of t).kind x (a.as_many ∙ sym (length-map ts meaning_of) ∙ sym (length-map (map meaning_of ts) (λ (m : TreeMeaning). m.kind))) (a.drains program (less program st)) (c.drain program st));
+      drains = λ program st. subst (λ ks. AreDrainOperands st.around.drains ks (xs ++ x ∷ [])) (sym (map-append (λ (m : TreeMeaning). m.kind) (map meaning_of ts) (meaning_of t ∷ [])) ∙ ap (map (λ (m : TreeMeaning). m.kind)) (sym ms)) (all-drains-push st.around.drains (map (λ (m : TreeMeaning). m.kind) (map meaning_of ts)) xs (meaning_of t).kind x (a.as_many ∙ sym (length-map ts meaning_of) ∙ sym (length-map (map meaning_of ts) (λ (m : TreeMeaning). m.kind))) (a.drains program (less program st)) (c.drain program st));
       before = λ program st. all-before-push s (length new) xs x (all-before-more s (length mid) (length new) xs grown (a.before program (less program st))) (c.before program st);
       values = λ sound program scene step names done st n h.
           let both = pass-both ts t sound in
@@ -358,7 +358,7 @@ used-along program s n true o (x ∷ xs) a b c d given h = ap are_used_first (in
     in-places : {x y z w : Operand} → o.a ≡ x → o.b ≡ y → o.c ≡ z → o.d ≡ w → operands_of o ≡ x ∷ y ∷ z ∷ w ∷ []
     in-places p q r t = cc
 
-first-drain : (m : ℕ) (more : List Kind) (xs : List Operand) → length xs ≡ suc (length more) → AreDrainsOf m (Ldd ∷ more) xs → slice_index_or xs 0 from.Unused ≡ from.Drain (drain_in (slice_index_or xs 0 from.Unused))
+first-drain : (m : ℕ) (more : List Kind) (xs : List Operand) → length xs ≡ suc (length more) → AreDrainOperands m (Ldd ∷ more) xs → slice_index_or xs 0 from.Unused ≡ from.Drain (drain_named (slice_index_or xs 0 from.Unused))
 first-drain m more [] e a = absurd (omega (arith, e))
 first-drain m more (x ∷ xs) e a = (drain-is m x a.0).0
 
@@ -377,7 +377,7 @@ emits-call s g holder old mid statement first t kind op file window args xs o ca
     let has-kinds : is_sound t ≡ true → HasKinds (map_row (row_of o.op)) kinds kind = λ sound. subst (λ q. HasKinds (map_row (row_of q)) kinds kind) (sym ho) (subst (λ ks. HasKinds (map_row (row_of op)) ks kind) (sym (kinds-twice args)) (kinds-of-row (map_row (row_of op)) (map kind-of args) kind (call-sound t kind op file window args call sound).kinds)) in
     let goes : is_sound t ≡ true → (program : Program) → Stands s g holder first (mid ++ o ∷ []) program → GoesAlong o xs = λ sound program st e.
     let f = along-drain o.op kinds kind e (has-kinds sound) in
-    first-drain st.around.drains f.0 xs (many ∙ ap length f.1) (subst (λ ks. AreDrainsOf st.around.drains ks xs) f.1 (a.drains program (stands-less s g holder first program mid (mid ++ o ∷ []) (o ∷ []) refl st))) in
+    first-drain st.around.drains f.0 xs (many ∙ ap length f.1) (subst (λ ks. AreDrainOperands st.around.drains ks xs) f.1 (a.drains program (stands-less s g holder first program mid (mid ++ o ∷ []) (o ∷ []) refl st))) in
     let same : is_sound t ≡ true → (program : Program) → Stands s g holder first (mid ++ o ∷ []) program → kinds_of program o ≡ kinds = λ sound program st. kinds-are (operand_kind program) o file window xs kinds has (goes sound program st) refl (a.kinds program (less program st)) few in
     let own-kinds : operation_kind (mid ++ o ∷ []) (length mid) ≡ Some (meaning_of t).kind = ap (option_map (λ (p : Operation). p.kind)) (get-seam mid o []) ∙ ap Some (hk ∙ sym (call-kind t kind op file window args call)) in
     record {
@@ -411,10 +411,10 @@ emits-call s g holder old mid statement first t kind op file window args xs o ca
           let ks : kinds_of program o ≡ kinds = same sound program st in
           let m = length mid in
           let form : IsOperationOf program (MayRead program s m) o.kept o = record {
-            a = subst (MayRead program s m) (sym has.a) (read-at program s m xs (first_place o.op) given);
-            b = subst (MayRead program s m) (sym has.b) (read-at program s m xs (first_place o.op + 1) given);
-            c = subst (MayRead program s m) (sym has.c) (read-at program s m xs (first_place o.op + 2) given);
-            d = subst (MayRead program s m) (sym has.d) (read-at program s m xs (first_place o.op + 3) given);
+            a = subst (MayRead program s m) (sym has.a) (read-at program s m xs (first_map_place o.op) given);
+            b = subst (MayRead program s m) (sym has.b) (read-at program s m xs (first_map_place o.op + 1) given);
+            c = subst (MayRead program s m) (sym has.c) (read-at program s m xs (first_map_place o.op + 2) given);
+            d = subst (MayRead program s m) (sym has.d) (read-at program s m xs (first_map_place o.op + 3) given);
             used = used-along program s m (goes_along_drains o.op) o xs has.a has.b has.c has.d given few;
             kinds = subst (λ js. HasKinds (map_row (row_of o.op)) js o.kind) (sym ks) (subst (HasKinds (map_row (row_of o.op)) kinds) (sym hk) (has-kinds sound));
             drain = λ e. subst (MayRead program s m) (goes sound program st e ∙ ap from.Drain (sym has.drain_is)) (read-at program s m xs 0 given);

@@ -124,9 +124,9 @@ no-free-behind row i [] hm hi = tt
 no-free-behind row i (t ∷ ts) hm hi = (ap (λ b. b && is_free t) (hm.drains i hi), no-free-behind row (i + 1) ts hm (omega arith))
 
 -- where the first operand is none
-no-free-drain : (row : Row) (ts : List Typed) → AsksMaps row → (asks_drain row.first && begins_free ts) ≡ false → NoFreeDrain row 0 ts
-no-free-drain row [] hm h = tt
-no-free-drain row (t ∷ ts) hm h = (h, no-free-behind row 1 ts hm (omega arith))
+no-free-drain : (r : Row) (ts : List Typed) → AsksMaps r → (asks_drain r.first && begins_free ts) ≡ false → NoFreeDrain r 0 ts
+no-free-drain r [] hm h = tt
+no-free-drain r (t ∷ ts) hm h = (h, no-free-behind r 1 ts hm (omega arith))
 
 -- operands at their places are maps, as many as there were, and allowed
 pub record ArePlaced (g : Ground) (row : Row) (agreed : Kind) (i : ℕ) (ts : List Typed) (xs : List Argument) : Type 0 where

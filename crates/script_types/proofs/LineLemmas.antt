@@ -41,7 +41,7 @@ use Rattle.script_types.specs.inside.Fits.{Ground, SideFits, fits}
 use Rattle.script_types.specs.inside.Sections.{Around, HaveForm, Holder, HoldsMaps, IsBegun, IsGiven, IsOperandOf, NamesBefore, Stands, maps_in, own_operand, span_in}
 use Rattle.script_types.specs.inside.Sound.{are_sound, is_sound}
 use Rattle.script_types.specs.inside.Values.{AllBefore, Emits, EmitsDrain}
-use Rattle.script_types.specs.inside.Written.{AddsLine, Agree, AllDrainsBelow, AllDue, AreDue, AreIn, AreValuesOf, AreWritten, Begins, DrainsBelow, DueIn, HasLastKind, HaveValues, IsMade, IsOwn, IsValueOf, ListsTree, carried_operand, carried_or, drains_with, gives_name, held_before, held_below, last_number, last_operand, line_operand, output_with, outputs_with}
+use Rattle.script_types.specs.inside.Written.{AddsLine, Agree, AllDrainsBelow, AllDue, AreDueBehind, AreIn, AreValuesOf, AreWritten, SectionBegins, DrainsBelow, DueIn, HasLastKind, HaveValues, IsMade, IsOwn, IsValueOf, ListsTree, carried_operand, carried_or, drains_with, gives_name, held_before, held_below, last_number, last_operand, line_operand, output_with, outputs_with}
 use Rattle.script_types.proofs.EmitLemmas.{all-stay, before-drain, drains-stay, form-append, get-left, get-seam, holds-more}
 use Rattle.script_types.proofs.FitLemmas.{both-left, both-right}
 use Rattle.script_types.proofs.Steps.{above-push}
@@ -275,7 +275,7 @@ all-due-more : (n k : ℕ) (xs : List DrainUse) → n ≤ k → AllDue n xs → 
 all-due-more n k [] h a = tt
 all-due-more n k (x ∷ xs) h a = (let b = a.0 in omega (arith, b, h), all-due-more n k xs h a.1)
 
-due-both : (s : Section) (count : ℕ) (xs ys : List DrainUse) → DueIn s 0 xs → AreDue s count ys → DueIn s count (xs ++ ys)
+due-both : (s : Section) (count : ℕ) (xs ys : List DrainUse) → DueIn s 0 xs → AreDueBehind s count ys → DueIn s count (xs ++ ys)
 due-both Initial count xs ys hx hy = all-due-append count xs ys (all-due-more 0 count xs (omega arith) hx) hy
 due-both Dynamic count xs ys hx hy = tt
 
@@ -283,7 +283,7 @@ due-both Dynamic count xs ys hx hy = tt
 pub raised : (program : Program) (s : Section) (n j k m : ℕ) (kind : Kind) (x : Operand) → n ≤ j → k ≤ m → IsOperandOf program s n k kind x → IsOperandOf program s j m kind x
 raised program s n j k m kind x h g a = record { kind_is = a.kind_is; given = given-more program s n j x h a.given; drain = drain-more k m kind x g a.drain }
 
-module _ (frame : Frame) (upper : List Line) (s : Section) (start : Holder) (drains : List DrainUse) (first : ℕ) (ops : List Operation) (added : List DrainUse) (ls : List Line) (xs : List Operand) (program : Program) (h : HaveValues frame upper s start drains first ops added ls xs) (b : Begins s (ground_at frame s upper) start drains added ops program) where
+module _ (frame : Frame) (upper : List Line) (s : Section) (start : Holder) (drains : List DrainUse) (first : ℕ) (ops : List Operation) (added : List DrainUse) (ls : List Line) (xs : List Operand) (program : Program) (h : HaveValues frame upper s start drains first ops added ls xs) (b : SectionBegins s (ground_at frame s upper) start drains added ops program) where
   pub enough : b.around.drains ≤ length drains + length added
   enough = let c = b.count in omega (arith, c)
 
@@ -449,7 +449,7 @@ next-there : (program : Program) (before one more : List DrainUse) → program.d
 next-there program before [] more h = tt
 next-there program before (d ∷ ds) more h = ap (λ es. slice_get es (length before)) h ∙ get-seam before d (ds ++ more)
 
-due-push : (s : Section) (n k : ℕ) (added one : List DrainUse) → n ≤ k → AreDue s n added → IsDueAt s k one → AreDue s k (added ++ one)
+due-push : (s : Section) (n k : ℕ) (added one : List DrainUse) → n ≤ k → AreDueBehind s n added → IsDueAt s k one → AreDueBehind s k (added ++ one)
 due-push Initial n k added [] h a b = all-due-append k added [] (all-due-more n k added h a) tt
 due-push Initial n k added (d ∷ ds) h a b = all-due-append k added (d ∷ ds) (all-due-more n k added h a) (subst (λ es. AllDue k (d ∷ es)) (sym b.0) (let e = b.1 in omega (arith, e), tt))
 due-push Dynamic n k added [] h a b = append-nil added ∙ a
@@ -490,7 +490,7 @@ module _ (frame : Frame) (upper : List Line) (s : Section) (start : Holder) (dra
   last-push name kind false e r = last-more (readable frame.sampled upper) s old new c.ops m (m + length one) name kind (last_operand s 0 (length drains) ls name) c.appended (omega arith) (h.last name kind (readable-up frame (upper ++ ls) l name kind (not-target frame (upper ++ ls) l name kind fit r e) r))
 
   -- the program without the statement
-  abbrev less : (program : Program) → Begins s (ground_at frame s upper) start drains (added ++ one) new program → Begins s (ground_at frame s upper) start drains added old program
+  abbrev less : (program : Program) → SectionBegins s (ground_at frame s upper) start drains (added ++ one) new program → SectionBegins s (ground_at frame s upper) start drains added old program
   less program b = record {
     around = b.around;
     count = b.count;
@@ -500,10 +500,10 @@ module _ (frame : Frame) (upper : List Line) (s : Section) (start : Holder) (dra
     drains_are = b.drains_are ∙ ap (λ ds. ds ++ b.more_drains) (sym (append_assoc drains added one)) ∙ append_assoc (drains ++ added) one b.more_drains;
   }
 
-  abbrev stands : (program : Program) → Begins s (ground_at frame s upper) start drains (added ++ one) new program → Stands s G H (length old) new program
+  abbrev stands : (program : Program) → SectionBegins s (ground_at frame s upper) start drains (added ++ one) new program → Stands s G H (length old) new program
   stands program b = record { around = around-below frame upper s start drains first old added ls xs program h (less program b); begins = b.begun }
 
-  next : (program : Program) → Begins s (ground_at frame s upper) start drains (added ++ one) new program → HasNext program m one
+  next : (program : Program) → SectionBegins s (ground_at frame s upper) start drains (added ++ one) new program → HasNext program m one
   next program b = subst (λ k. HasNext program k one) (length-append drains added) (next-there program (drains ++ added) one b.more_drains (less program b).drains_are)
 
   -- the names have their maps below one more statement
@@ -682,7 +682,7 @@ module _ (frame : Frame) (above : List Line) (s : Section) (holder : Holder) (m 
 
 -- ---- sections
 
-due-none : (s : Section) → AreDue s 0 []
+due-none : (s : Section) → AreDueBehind s 0 []
 due-none Initial = tt
 due-none Dynamic = refl
 

@@ -18,10 +18,10 @@ use Rattle.map_meaning.specs.Scenes.{Scene}
 use Rattle.map_meaning.specs.Table.{is_kind}
 use Rattle.script_types.specs.declared.typed.Section.{Section}
 use Rattle.script_types.specs.declared.typed.Section.TheVariants.{Initial, Dynamic}
-use Rattle.script_types.specs.inside.Drains.{IsDrainBelow, drain_in}
+use Rattle.script_types.specs.inside.Drains.{IsDrainBelow, drain_named}
 use Rattle.script_types.specs.inside.Fits.{Ground}
 use Rattle.script_types.specs.inside.Sections.{IsBegun, Holder, IsGiven, MayRead, NamesBefore, Stands, maps_in, operations_within, own_operand, span_in, with_maps}
-use Rattle.script_types.specs.inside.Values.{AllBefore, AreDrainsOf, AreGiven}
+use Rattle.script_types.specs.inside.Values.{AllBefore, AreDrainOperands, AreGiven}
 
 -- ---- maps
 
@@ -197,7 +197,7 @@ own-drain Initial m n kind h = h
 own-drain Dynamic m n kind h = h
 
 -- an operand of their kind is a drain map
-pub drain-is : (m : ℕ) (x : Operand) → IsDrainBelow m Ldd x → (x ≡ from.Drain (drain_in x)) × (drain_in x < m)
+pub drain-is : (m : ℕ) (x : Operand) → IsDrainBelow m Ldd x → (x ≡ from.Drain (drain_named x)) × (drain_named x < m)
 drain-is m from.Unused b = cc
 drain-is m (from.Literal c v) b = cc
 drain-is m from.Time b = cc
@@ -208,7 +208,7 @@ drain-is m (from.Now i) b = cc
 drain-is m (from.Last d i) b = cc
 drain-is m (from.Drain i) b = (refl, b)
 
-pub all-drains-push : (m : ℕ) (kinds : List Kind) (xs : List Operand) (kind : Kind) (x : Operand) → length xs ≡ length kinds → AreDrainsOf m kinds xs → IsDrainBelow m kind x → AreDrainsOf m (kinds ++ kind ∷ []) (xs ++ x ∷ [])
+pub all-drains-push : (m : ℕ) (kinds : List Kind) (xs : List Operand) (kind : Kind) (x : Operand) → length xs ≡ length kinds → AreDrainOperands m kinds xs → IsDrainBelow m kind x → AreDrainOperands m (kinds ++ kind ∷ []) (xs ++ x ∷ [])
 all-drains-push m [] [] kind x e a b = (b, tt)
 all-drains-push m [] (y ∷ xs) kind x e a b = cc
 all-drains-push m (k ∷ kinds) [] kind x e a b = cc

@@ -16,7 +16,7 @@ use Rattle.map_meaning.proofs.Callers.{operation_values-append}
 use Rattle.script_types.specs.declared.typed.Section.{Section}
 use Rattle.script_types.specs.declared.typed.Section.TheVariants.{Initial, Dynamic}
 use Rattle.script_types.specs.inside.Sections.{maps_in, span_in}
-use Rattle.script_types.specs.inside.Written.{AllDue, AreDue, DrainsBelow}
+use Rattle.script_types.specs.inside.Written.{AllDue, AreDueBehind, DrainsBelow}
 use Rattle.script_types.proofs.SectionLemmas.{values-add}
 
 -- ---- parts of results
@@ -122,7 +122,7 @@ module _ (program : Program) (scene : Scene) (step : ℕ) where
       count-staged ds (drop b ops) (later p.0) e (subst (λ j. AllDue j ds) same h.1) p.2 ∙ sym same
 
 -- as many maps are done as there are operations
-pub staged-count : (s : Section) (program : Program) (scene : Scene) (step : ℕ) (ds : List DrainUse) (done : Done) (ops : List Operation) (e : Done) → length (maps_in s done) ≡ 0 → AreDue s (length ops) ds → staged_values program scene (span_in s program step) done ds ops ≡ Ok e → length (maps_in s e) ≡ length ops
+pub staged-count : (s : Section) (program : Program) (scene : Scene) (step : ℕ) (ds : List DrainUse) (done : Done) (ops : List Operation) (e : Done) → length (maps_in s done) ≡ 0 → AreDueBehind s (length ops) ds → staged_values program scene (span_in s program step) done ds ops ≡ Ok e → length (maps_in s e) ≡ length ops
 staged-count Initial program scene step ds done ops e none h is =
     let f : length ops ≡ length done.initial + length ops = omega (arith, none) in
     count-staged program scene step ds ops done e (subst (λ j. AllDue j ds) f h) is ∙ sym f
@@ -133,7 +133,7 @@ staged-count Dynamic program scene step ds done ops e none h is =
     ap (λ (x : Done). length x.dynamic) a.is ∙ (let z : length (done.dynamic ++ a.added) ≡ length ops = omega (arith, l, n, none) in z)
 
 -- the same in each section
-pub staged-push : (s : Section) (program : Program) (scene : Scene) (step : ℕ) (ds one : List DrainUse) (done : Done) (old ops : List Operation) → length (maps_in s done) ≡ 0 → AreDue s (length old) ds → IsDueAt s (length (old ++ ops)) one → staged_values program scene (span_in s program step) done (ds ++ one) (old ++ ops) ≡ (staged_values program scene (span_in s program step) done ds old >>= λ d. operation_values program scene (span_in s program step) d ops >>= λ e. Ok (finish scene e one))
+pub staged-push : (s : Section) (program : Program) (scene : Scene) (step : ℕ) (ds one : List DrainUse) (done : Done) (old ops : List Operation) → length (maps_in s done) ≡ 0 → AreDueBehind s (length old) ds → IsDueAt s (length (old ++ ops)) one → staged_values program scene (span_in s program step) done (ds ++ one) (old ++ ops) ≡ (staged_values program scene (span_in s program step) done ds old >>= λ d. operation_values program scene (span_in s program step) d ops >>= λ e. Ok (finish scene e one))
 staged-push Initial program scene step ds one done old ops none h k =
     let e : length old ≡ length done.initial + length old = omega (arith, none) in
     let f : length (old ++ ops) ≡ length done.initial + length (old ++ ops) = omega (arith, none) in

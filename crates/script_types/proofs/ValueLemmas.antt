@@ -39,7 +39,7 @@ use Rattle.map_meaning.specs.declared.row.Ask.TheVariants as ask
 use Rattle.map_meaning.specs.declared.row.Row.{Row}
 use Rattle.map_meaning.proofs.Callers.{same_kind}
 use Rattle.map_meaning.specs.Trees.{Environment, Site, TreeMeaning, applied_in, operations_in, values_from_left}
-use Rattle.script_types.specs.inside.Drains.{drain_in}
+use Rattle.script_types.specs.inside.Drains.{drain_named}
 use Rattle.script_types.specs.inside.Values.{HasOperands}
 
 -- ---- parts
@@ -120,7 +120,7 @@ by_rule-same (Along o) s xs ys place below a b c d =
 
 -- the first operand is the drain map that the operation goes along, where it does
 abbrev pub GoesAlong : Operation → List Operand → Type 0
-GoesAlong o xs = goes_along_drains o.op ≡ true → slice_index_or xs 0 Unused ≡ from.Drain (drain_in (slice_index_or xs 0 Unused))
+GoesAlong o xs = goes_along_drains o.op ≡ true → slice_index_or xs 0 Unused ≡ from.Drain (drain_named (slice_index_or xs 0 Unused))
 
 -- the operands of an operation, by whether it goes along a drain map
 abbrev along : Bool → Operation → List Operand
@@ -209,9 +209,9 @@ kinds-are f o file window xs ks has h hu hm hl = kinds-along (goes_along_drains 
 -- ---- operations along drain maps
 
 -- the row asks a drain map first, or allows nothing
-record IsDrainRow (row : Row) : Type 0 where
-  first : row.first ≡ ask.Only Ldd
-  some : has_count row 0 ≡ false
+record IsDrainRow (r : Row) : Type 0 where
+  first : r.first ≡ ask.Only Ldd
+  some : has_count r 0 ≡ false
 
 no-more : (n : ℕ) → (nat_le 1 n && nat_le n 0) ≡ false
 no-more n = grind (arith, nat_tests)

@@ -7,7 +7,8 @@ use Rattle.script_types.specs.declared.end.LowerEnd.{LowerEnd}
 use Rattle.script_types.specs.declared.end.LowerEnd.TheVariants.{Meaning, Memory}
 use Rattle.script_types.specs.declared.typed.Line.{Line}
 use Rattle.script_types.specs.declared.typed.Section.TheVariants.{Initial, Dynamic}
-use Rattle.script_types.specs.Lowered.{area_number, inputs_of, as_listed, as_shown, as_shown_drain, drains_of, outputs_from, section_operations}
+use Rattle.script_types.specs.Lowered.{area_number, inputs_of, as_listed, as_shown}
+use Rattle.script_types.specs.Lowered.{as_shown_drain, drains_of, outputs_from, section_operations}
 use Rattle.script_types.specs.Meaning.{meaning}
 use Rattle.script_types.specs.Names.{binding_of}
 use Rattle.script_types.specs.Values.{HasValues}

@@ -8,7 +8,7 @@ ghost use Rattle.script_types.specs.inside.Nodes.{held_in};
 ghost use Rattle.script_types.specs.inside.Values.{EmitsDrain};
 ghost use Rattle.script_types.specs.inside.Written.{ListsDrain};
 
-use crate::emit::{At, drain_in, emit, emit_all, operand_at};
+use crate::emit::{At, drain_named, emit, emit_all, operand_at};
 use crate::names::Names;
 use crate::same::is_kind;
 use cell_values::Kind;
@@ -66,13 +66,13 @@ pub fn emit_drain(
     match tree {
         Tree::Mask { operands } => {
             let found = emit_all(alloc, ops, numbers, holders, at, operands.as_slice())?;
-            let of = drain_in(operand_at(found.as_slice(), 0));
+            let of = drain_named(operand_at(found.as_slice(), 0));
             let by = operand_at(found.as_slice(), 1);
             Ok(DrainFrom::Mask { of, by })
         }
         _ => {
             let operand = emit(alloc, ops, numbers, holders, at, tree)?;
-            Ok(DrainFrom::Same(drain_in(operand)))
+            Ok(DrainFrom::Same(drain_named(operand)))
         }
     }
 }

@@ -3,9 +3,9 @@ ghost use Rattle.std.specs.List.{list_all};
 ghost use Rattle.map_meaning.specs.Table.{goes_along_drains};
 ghost use Rattle.map_meaning.specs.Trees.{meaning_of, operations_in};
 ghost use Rattle.script_types.specs.Statements.{operations_of};
-ghost use Rattle.script_types.specs.inside.Drains.{drain_in, drain_numbers};
+ghost use Rattle.script_types.specs.inside.Drains.{drain_named, drain_numbers};
 ghost use Rattle.script_types.specs.inside.Fits.{Ground, fits};
-ghost use Rattle.script_types.specs.inside.Nodes.{IsNode, first_place, held_in, input_operand};
+ghost use Rattle.script_types.specs.inside.Nodes.{IsNode, first_map_place, held_in, input_operand};
 ghost use Rattle.script_types.specs.inside.Sections.{own_operand};
 ghost use Rattle.script_types.specs.inside.Values.{Emits, EmitsAll, HasOperands};
 ghost use Rattle.script_types.specs.inside.Written.{IsOperationOn, ListsTree, ListsTrees};
@@ -67,8 +67,8 @@ pub fn held(holders: &Names<Operand>, name: &[u8]) -> Operand
 }
 
 /// The number of the drain map that an operand is.
-pub fn drain_in(operand: Operand) -> u32
-    ensures { result ≡ drain_in operand }
+pub fn drain_named(operand: Operand) -> u32
+    ensures { result ≡ drain_named operand }
 {
     match operand {
         Operand::Drain(number) => number,
@@ -143,8 +143,8 @@ fn goes_along_drains(op: Op) -> bool
 }
 
 // The place of the first operand that is no drain map.
-fn first_place(op: Op) -> usize
-    ensures { result ≡ first_place op }
+fn first_map_place(op: Op) -> usize
+    ensures { result ≡ first_map_place op }
 {
     if goes_along_drains(op) { 1 } else { 0 }
 }
@@ -164,7 +164,7 @@ fn operation_on(
     ensures operation { IsOperationOn result op kind at below }
     ensures operands { HasOperands result file window operands.now }
 {
-    let place = first_place(op);
+    let place = first_map_place(op);
     Operation {
         op,
         kind,
@@ -172,7 +172,7 @@ fn operation_on(
         b: operand_at(operands, place + 1),
         c: operand_at(operands, place + 2),
         d: operand_at(operands, place + 3),
-        drain: drain_in(operand_at(operands, 0)),
+        drain: drain_named(operand_at(operands, 0)),
         file,
         window,
         statement: at.statement,

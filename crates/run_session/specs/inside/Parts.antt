@@ -1,5 +1,6 @@
 -- What the parts of a session answer.
-use Rattle.std.specs.Prelude.{◌≡◌, ◌⊎◌, ◌*◌, ℕ, true, List, [], length, slice_get, slice_index_or, Some, None, IfSome, Result, Ok, Err, ⊤, if◌then◌else◌}
+use Rattle.std.specs.Prelude.{◌≡◌, ◌⊎◌, ◌*◌, ℕ, true, List, [], length, slice_get}
+use Rattle.std.specs.Prelude.{slice_index_or, Some, None, IfSome, Result, Ok, Err, ⊤, if◌then◌else◌}
 use Rattle.std.specs.declared.option.Option.{Option}
 use Rattle.cell_values.specs.declared.kind.Kind.TheVariants.{Ldd}
 use Rattle.drain_meaning.specs.Drains.{DrainMap}

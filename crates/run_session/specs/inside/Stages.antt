@@ -1,5 +1,6 @@
 -- What the stages of `initial` leave, and the drain maps that are computed between them.
-use Rattle.std.specs.Prelude.{◌≡◌, ◌⊎◌, ◌*◌, ◌<◌, ◌≤◌, ℕ, true, List, [], ◌∷◌, ◌++◌, All, IsSomeAnd, drop, length, map, take, filter, slice_get, slice_index_or, Some, None, Result, ⊤}
+use Rattle.std.specs.Prelude.{◌≡◌, ◌⊎◌, ◌*◌, ◌<◌, ◌≤◌, ℕ, true, List, [], ◌∷◌, ◌++◌, All}
+use Rattle.std.specs.Prelude.{IsSomeAnd, drop, length, map, take, filter, slice_get, slice_index_or, Some, None, Result, ⊤}
 use Rattle.std.specs.Option.{unwrap_or}
 use Rattle.drain_meaning.specs.Drains.{DrainMap}
 use Rattle.drain_meaning.specs.Masks.{lddmask_of}

@@ -11,9 +11,9 @@ use Rattle.map_meaning.specs.Table.{is_kind}
 use Rattle.script_types.specs.Lowered.{is_drain_input}
 
 -- the number of the drain map that an operand is
-abbrev pub drain_in : Operand → ℕ
-drain_in (from.Drain n) = n
-drain_in _ = 0
+abbrev pub drain_named : Operand → ℕ
+drain_named (from.Drain n) = n
+drain_named _ = 0
 
 -- for each of some inputs, how many drain maps stand before it, where so many stand before the first
 abbrev pub drain_numbers : ℕ → List InputUse → List ℕ

@@ -39,8 +39,8 @@ IsCall t kind op file window operands =
     ((t ≡ tree.Call kind op operands) × (file ≡ 0) × (window ≡ 0)) ⊎ (t ≡ tree.CallWith kind op file window operands)
 
 -- the place of the first operand of an operation that is no drain map
-abbrev pub first_place : Op → ℕ
-first_place op = if goes_along_drains op then 1 else 0
+abbrev pub first_map_place : Op → ℕ
+first_map_place op = if goes_along_drains op then 1 else 0
 
 -- what an expression is at its root
 abbrev pub IsNode : Node → List ℕ → Holder → Tree → Type 0

@@ -16,20 +16,20 @@ use Rattle.map_meaning.specs.Scenes.{Scene}
 use Rattle.map_meaning.specs.Trees.{Environment, meaning_of, operations_in as count_in, values_from_left}
 use Rattle.script_types.specs.declared.typed.Section.{Section}
 use Rattle.script_types.specs.declared.typed.Section.TheVariants.{Initial}
-use Rattle.script_types.specs.inside.Drains.{IsDrainBelow, drain_in}
+use Rattle.script_types.specs.inside.Drains.{IsDrainBelow, drain_named}
 use Rattle.script_types.specs.inside.Fits.{Ground}
-use Rattle.script_types.specs.inside.Nodes.{first_place}
+use Rattle.script_types.specs.inside.Nodes.{first_map_place}
 use Rattle.script_types.specs.inside.Sections.{HaveForm, Holder, HoldsMaps, IsGiven, NamesBefore, Stands, maps_in, own_operand, span_in}
 use Rattle.script_types.specs.inside.Sound.{is_sound}
 
 -- the operation is written with these operands, the first four of a list, of which the first is the drain map that it goes along
 -- where it does, with this file and this window
 pub record HasOperands (o : Operation) (file window : ℕ) (xs : List Operand) : Type 0 where
-  pub a : o.a ≡ slice_index_or xs (first_place o.op) Unused
-  pub b : o.b ≡ slice_index_or xs (first_place o.op + 1) Unused
-  pub c : o.c ≡ slice_index_or xs (first_place o.op + 2) Unused
-  pub d : o.d ≡ slice_index_or xs (first_place o.op + 3) Unused
-  pub drain_is : o.drain ≡ drain_in (slice_index_or xs 0 Unused)
+  pub a : o.a ≡ slice_index_or xs (first_map_place o.op) Unused
+  pub b : o.b ≡ slice_index_or xs (first_map_place o.op + 1) Unused
+  pub c : o.c ≡ slice_index_or xs (first_map_place o.op + 2) Unused
+  pub d : o.d ≡ slice_index_or xs (first_map_place o.op + 3) Unused
+  pub drain_is : o.drain ≡ drain_named (slice_index_or xs 0 Unused)
   pub file_is : o.file ≡ file
   pub window_is : o.window ≡ window
 
@@ -66,10 +66,10 @@ pub record Emits (section : Section) (g : Ground) (holder : Holder)
       IsGiven program section (length new) x × HaveForm program section (length old) added
 
 -- these operands are drain maps exactly where their kinds are those of drain maps
-abbrev pub AreDrainsOf : ℕ → List Kind → List Operand → Type 0
-AreDrainsOf m [] xs = ⊤
-AreDrainsOf m (kind ∷ kinds) [] = ⊤
-AreDrainsOf m (kind ∷ kinds) (x ∷ xs) = IsDrainBelow m kind x × AreDrainsOf m kinds xs
+abbrev pub AreDrainOperands : ℕ → List Kind → List Operand → Type 0
+AreDrainOperands m [] xs = ⊤
+AreDrainOperands m (kind ∷ kinds) [] = ⊤
+AreDrainOperands m (kind ∷ kinds) (x ∷ xs) = IsDrainBelow m kind x × AreDrainOperands m kinds xs
 
 -- the same of some expressions, from the left
 pub record EmitsAll (section : Section) (g : Ground) (holder : Holder)
@@ -81,7 +81,7 @@ pub record EmitsAll (section : Section) (g : Ground) (holder : Holder)
   pub kinds : (program : Program) → Stands section g holder first new program →
       map (operand_kind program) xs ≡ map Some (map (λ m. m.kind) (map meaning_of ts))
   pub drains : (program : Program) (st : Stands section g holder first new program) →
-      AreDrainsOf st.around.drains (map (λ m. m.kind) (map meaning_of ts)) xs
+      AreDrainOperands st.around.drains (map (λ m. m.kind) (map meaning_of ts)) xs
   pub before : (program : Program) → Stands section g holder first new program → AllBefore section (length new) xs
   pub values : list_all is_sound ts ≡ true →
       (program : Program) (scene : Scene) (step : ℕ) (names : Environment) (done : Done) →

@@ -233,7 +233,7 @@ DueIn Dynamic count ds = ⊤
 
 -- A program in which a section was written: where its statements begin, the names have these operands, and these drain maps are
 -- written; the section begins with these operations, and its drain maps behind the others with these.
-pub record Begins (section : Section) (g : Ground) (start : Holder) (drains added : List DrainUse) (ops : List Operation)
+pub record SectionBegins (section : Section) (g : Ground) (start : Holder) (drains added : List DrainUse) (ops : List Operation)
     (program : Program) : Type 0 where
   pub around : Around section g start 0 program
   pub count : around.drains ≡ length drains
@@ -243,9 +243,9 @@ pub record Begins (section : Section) (g : Ground) (start : Holder) (drains adde
   pub drains_are : program.drains ≡ (drains ++ added) ++ more_drains
 
 -- the drain maps that are added in `initial` are so, and in `dynamic` none is added
-abbrev pub AreDue : Section → ℕ → List DrainUse → Type 0
-AreDue Initial count ds = AllDue count ds
-AreDue Dynamic count ds = ds ≡ []
+abbrev pub AreDueBehind : Section → ℕ → List DrainUse → Type 0
+AreDueBehind Initial count ds = AllDue count ds
+AreDueBehind Dynamic count ds = ds ≡ []
 
 -- The operations and the drain maps that are added are those of the statements of a section, which stand below these others: in every
 -- program in which the section was written, both have the same values and are well formed.
@@ -254,19 +254,19 @@ pub record HaveValues (frame : Frame) (upper : List Line) (section : Section) (s
   pub last : (name : List ℕ) (kind : Kind) → readable frame.sampled (upper ++ ls) name ≡ Some kind →
       HasLastKind (readable frame.sampled upper) section ops (length drains + length added) name kind
       (last_operand section 0 (length drains) ls name)
-  pub due : AreDue section (length ops) added
-  pub below : (program : Program) → Begins section (ground_at frame section upper) start drains added ops program →
+  pub due : AreDueBehind section (length ops) added
+  pub below : (program : Program) → SectionBegins section (ground_at frame section upper) start drains added ops program →
       AllDrainsBelow (length drains + length added) xs
-  pub before : (program : Program) → Begins section (ground_at frame section upper) start drains added ops program →
+  pub before : (program : Program) → SectionBegins section (ground_at frame section upper) start drains added ops program →
       AllBefore section (length ops) xs
   pub agree : are_sound ls ≡ true → (program : Program) (scene : Scene) (step : ℕ) (names : Environment) (done : Done) →
-      Begins section (ground_at frame section upper) start drains added ops program → maps_in section done ≡ [] →
+      SectionBegins section (ground_at frame section upper) start drains added ops program → maps_in section done ≡ [] →
       length done.drains ≡ length drains → HoldsMaps (ground_at frame section upper) start scene names done →
       Agree (ground_at frame section (upper ++ ls)) (held_below section (length drains) start ls) scene done.drains ls xs
       (section_value scene first names (statements_of ls))
       (staged_values program scene (span_in section program step) done added ops)
   pub formed : are_sound ls ≡ true →
-      (program : Program) → Begins section (ground_at frame section upper) start drains added ops program →
+      (program : Program) → SectionBegins section (ground_at frame section upper) start drains added ops program →
       HaveForm program section 0 ops × AreDrainUses program (length drains) added × AreValuesOf program section (length ops) ls xs
 
 -- What was written of some statements of a section, of which the first has this number.
