@@ -1,5 +1,5 @@
 -- The chain of statements is a well-formed program.
-use Rattle.std.proofs.Common.{◌≡◌, ℕ, zero, suc, ◌<◌, ◌≤◌, Bool, true, ◌&&◌, ◌||◌, List, [], ◌∷◌, refl, inl, inr, arith}
+use Rattle.std.proofs.Common.{◌≡◌, ℕ, zero, suc, ◌<◌, ◌≤◌, Bool, true, false, ◌&&◌, ◌||◌, List, [], ◌∷◌, refl, inl, inr, arith}
 use Rattle.std.specs.Prelude.{All, AllPairs, IsTrue, pos, nat_lt, nat_le, ◌==◌}
 use Rattle.std.specs.List.{list_all}
 use Rattle.std.proofs.lemmas.Bool.{and_parts, eqb-true, leb-true, ltb-true, or_cases}
@@ -120,26 +120,30 @@ input_is zero below = record { within = omega arith; role = refl }
 input_is (suc zero) below = record { within = omega arith; role = refl }
 input_is (suc (suc n)) below = absurd (omega arith)
 
+-- what is false is not true
+never : {X : Type 0} → false ≡ true → X
+never is = absurd (cc)
+
 -- the operations
 operations_are : AreOperations chain_program 0 chain_operations
 operations_are = (
-  record { a = input_is 0 (omega arith); b = input_is 1 (omega arith); c = tt; d = tt; used = refl; kinds = minimum; file = tt; kept = refl },
+  record { a = input_is 0 (omega arith); b = input_is 1 (omega arith); c = tt; d = tt; used = refl; kinds = minimum; drain = never; window = never; file = tt; kept = refl },
   (
-    record { a = omega arith; b = value-from_test Scalar (pos 2000000) refl; c = tt; d = tt; used = refl; kinds = minimum; file = tt; kept = refl },
+    record { a = omega arith; b = value-from_test Scalar (pos 2000000) refl; c = tt; d = tt; used = refl; kinds = minimum; drain = never; window = never; file = tt; kept = refl },
     (
-      record { a = omega arith; b = tt; c = tt; d = tt; used = refl; kinds = to_boolean; file = tt; kept = refl },
+      record { a = omega arith; b = tt; c = tt; d = tt; used = refl; kinds = to_boolean; drain = never; window = never; file = tt; kept = refl },
       (
-        record { a = omega arith; b = input_is 0 (omega arith); c = value-from_test Scalar (pos 7000000) refl; d = tt; used = refl; kinds = choice; file = tt; kept = refl },
+        record { a = omega arith; b = input_is 0 (omega arith); c = value-from_test Scalar (pos 7000000) refl; d = tt; used = refl; kinds = choice; drain = never; window = never; file = tt; kept = refl },
         (
-          record { a = omega arith; b = input_is 1 (omega arith); c = tt; d = tt; used = refl; kinds = product; file = tt; kept = refl },
+          record { a = omega arith; b = input_is 1 (omega arith); c = tt; d = tt; used = refl; kinds = product; drain = never; window = never; file = tt; kept = refl },
           (
-            record { a = omega arith; b = omega arith; c = tt; d = tt; used = refl; kinds = sum; file = tt; kept = refl },
+            record { a = omega arith; b = omega arith; c = tt; d = tt; used = refl; kinds = sum; drain = never; window = never; file = tt; kept = refl },
             (
-              record { a = omega arith; b = tt; c = tt; d = tt; used = refl; kinds = to_nominal; file = tt; kept = refl },
+              record { a = omega arith; b = tt; c = tt; d = tt; used = refl; kinds = to_nominal; drain = never; window = never; file = tt; kept = refl },
               (
-                record { a = omega arith; b = tt; c = tt; d = tt; used = refl; kinds = copy; file = tt; kept = refl },
+                record { a = omega arith; b = tt; c = tt; d = tt; used = refl; kinds = copy; drain = never; window = never; file = tt; kept = refl },
                 (
-                  record { a = omega arith; b = tt; c = tt; d = tt; used = refl; kinds = negative; file = tt; kept = refl },
+                  record { a = omega arith; b = tt; c = tt; d = tt; used = refl; kinds = negative; drain = never; window = never; file = tt; kept = refl },
                   tt,
                 ),
               ),
@@ -153,11 +157,11 @@ operations_are = (
 
 -- the outputs
 outputs_are : All (IsOutput chain_program) chain_outputs
-outputs_are zero d below = record { value = (1, refl, omega arith); kind = refl; file = refl; statement = omega arith }
-outputs_are (suc zero) d below = record { value = (3, refl, omega arith); kind = refl; file = refl; statement = omega arith }
-outputs_are (suc (suc zero)) d below = record { value = (5, refl, omega arith); kind = refl; file = refl; statement = omega arith }
-outputs_are (suc (suc (suc zero))) d below = record { value = (6, refl, omega arith); kind = refl; file = refl; statement = omega arith }
-outputs_are (suc (suc (suc (suc zero)))) d below = record { value = (7, refl, omega arith); kind = refl; file = refl; statement = omega arith }
+outputs_are zero d below = record { value = omega arith; kind = refl; file = refl; statement = omega arith }
+outputs_are (suc zero) d below = record { value = omega arith; kind = refl; file = refl; statement = omega arith }
+outputs_are (suc (suc zero)) d below = record { value = omega arith; kind = refl; file = refl; statement = omega arith }
+outputs_are (suc (suc (suc zero))) d below = record { value = omega arith; kind = refl; file = refl; statement = omega arith }
+outputs_are (suc (suc (suc (suc zero)))) d below = record { value = omega arith; kind = refl; file = refl; statement = omega arith }
 outputs_are (suc (suc (suc (suc (suc k))))) d below = absurd (omega arith)
 
 -- a grid may be of any kind
@@ -175,6 +179,8 @@ chain_formed = record {
   area = input_is 0 (omega arith);
   operations = operations_are;
   step_operations = tt;
+  drains = tt;
+  drain_order = λ i j d less below. absurd (omega arith);
   order = pairs_from stands_before StandsBefore before_from chain_operations refl;
   step_order = λ i j d less below. absurd (omega arith);
   outputs = outputs_are;
@@ -184,6 +190,7 @@ chain_formed = record {
   few_step_operations = omega arith;
   few_statements = all_from (λ (o : Operation). nat_le o.statement 1000) (λ (o : Operation). o.statement ≤ 1000) (λ o passes. leb-true o.statement 1000 passes) chain_operations refl;
   few_step_statements = λ k d below. absurd (omega arith);
+  few_drains = omega arith;
   few_outputs = omega arith;
   few_stacks = omega arith;
   few_stack_outputs = omega arith;

@@ -11,6 +11,7 @@ ghost use Rattle.worked_models.specs.Chain.{chain_inputs, chain_operations, chai
 
 use cell_values::Cell::{Mv, Val};
 use cell_values::{Cell, Cells, Kind, Word};
+use flow_task::BaseKit;
 use map_meaning::Operand::{Initial, Input, Literal, Unused};
 use map_meaning::{
     BlockRunner, InputUse, Known, Map, Op, Operand, Operation, OutputKind, OutputUse, OverAt,
@@ -39,7 +40,9 @@ const CHAIN: [Operation; 9] = [
         b: Input(1),
         c: Unused,
         d: Unused,
+        drain: 0,
         file: 0,
+        window: 0,
         statement: 1,
         number: 1,
         kept: false,
@@ -51,7 +54,9 @@ const CHAIN: [Operation; 9] = [
         b: Literal(Kind::Scalar, Val(2 * ONE)),
         c: Unused,
         d: Unused,
+        drain: 0,
         file: 0,
+        window: 0,
         statement: 1,
         number: 2,
         kept: true,
@@ -63,7 +68,9 @@ const CHAIN: [Operation; 9] = [
         b: Unused,
         c: Unused,
         d: Unused,
+        drain: 0,
         file: 0,
+        window: 0,
         statement: 2,
         number: 1,
         kept: false,
@@ -75,7 +82,9 @@ const CHAIN: [Operation; 9] = [
         b: Input(0),
         c: Literal(Kind::Scalar, Val(7 * ONE)),
         d: Unused,
+        drain: 0,
         file: 0,
+        window: 0,
         statement: 3,
         number: 1,
         kept: true,
@@ -87,7 +96,9 @@ const CHAIN: [Operation; 9] = [
         b: Input(1),
         c: Unused,
         d: Unused,
+        drain: 0,
         file: 0,
+        window: 0,
         statement: 4,
         number: 1,
         kept: false,
@@ -99,7 +110,9 @@ const CHAIN: [Operation; 9] = [
         b: Initial(1),
         c: Unused,
         d: Unused,
+        drain: 0,
         file: 0,
+        window: 0,
         statement: 4,
         number: 2,
         kept: true,
@@ -111,7 +124,9 @@ const CHAIN: [Operation; 9] = [
         b: Unused,
         c: Unused,
         d: Unused,
+        drain: 0,
         file: 0,
+        window: 0,
         statement: 5,
         number: 1,
         kept: true,
@@ -123,7 +138,9 @@ const CHAIN: [Operation; 9] = [
         b: Unused,
         c: Unused,
         d: Unused,
+        drain: 0,
         file: 0,
+        window: 0,
         statement: 6,
         number: 1,
         kept: true,
@@ -135,7 +152,9 @@ const CHAIN: [Operation; 9] = [
         b: Unused,
         c: Unused,
         d: Unused,
+        drain: 0,
         file: 0,
+        window: 0,
         statement: 7,
         number: 1,
         kept: false,
@@ -313,6 +332,7 @@ fn chain(alloc: Global) -> Result<Program, AllocError>
         inputs: inputs(alloc)?,
         initial: operations(alloc)?,
         dynamic: Items::new(alloc),
+        drains: Items::new(alloc),
         outputs: outputs(alloc)?,
         area: 0,
         steps: 0,
@@ -341,6 +361,7 @@ fn known(alloc: Global, a: &[Cell], b: &[Cell]) -> Result<Known, AllocError>
         maps,
         tables: Items::new(alloc),
         series: Items::new(alloc),
+        drains: Items::new(alloc),
         stacks: Items::new(alloc),
         initial: Items::new(alloc),
         last: Items::new(alloc),
@@ -358,7 +379,7 @@ fn run(alloc: Global, program: Program, known: Known) -> Result<StageEnd, AllocE
     };
     let program = Arc::new(alloc, program)?;
     let known = Arc::new(alloc, known)?;
-    PlainRunner::new().run(alloc, &program, span, &known)
+    PlainRunner::new(BaseKit).run(alloc, &program, span, &known)
 }
 
 // Runs the program over inputs of these cells.
@@ -422,7 +443,7 @@ fn tells_the_first_over(rt: HostRuntime) -> Result<(), Fail> {
 #[test]
 fn takes_each_program(rt: HostRuntime) -> Result<(), Fail> {
     let program = chain(rt.alloc())?;
-    let runner = PlainRunner::new();
+    let runner = PlainRunner::new(BaseKit);
     assert_eq!(rt; runner.admit(&program, 2048, 2048), None);
     assert_eq!(rt; runner.block(), 1);
     Ok(())
