@@ -133,8 +133,8 @@ class Making:
         for number in range(self.draw.randint(0, 2) if self.steps else 0):
             kind = "L" if self.slips(0.05) else self.draw.choice("BNOSD")
             prefix = "longstack" if self.slips(0.05) else f"w{number}"
-            self.bind(f"W{number}", prefix, kind)
-            self.stacks.append((f"W{number}", kind))
+            self.bind(f"P{number}", prefix, kind)
+            self.stacks.append((f"P{number}", kind))
             for step in range(1, self.steps + 1):
                 if not self.slips(0.02):
                     self.files[stack_file(prefix, step)] = self.grid(kind)
