@@ -274,7 +274,25 @@ fn plain(op: Op) -> Option<CellWork<'static>>
         | Op::TimeInputNominal
         | Op::TimeInputOrdinal
         | Op::TimeInputScalar
-        | Op::TimeInputDirectional => None,
+        | Op::TimeInputDirectional
+        | Op::WindowTotal
+        | Op::WindowAverage
+        | Op::WindowMinimum
+        | Op::WindowMaximum
+        | Op::WindowDiversity
+        | Op::WindowMajority
+        | Op::AreaTotal
+        | Op::AreaAverage
+        | Op::AreaMinimum
+        | Op::AreaMaximum
+        | Op::AreaDiversity
+        | Op::AreaMajority
+        | Op::AreaArea
+        | Op::MapTotal
+        | Op::MapMinimum
+        | Op::MapMaximum
+        | Op::Near(_)
+        | Op::Flow(_) => None,
         _ => Some(CellWork::Plain(op)),
     }
 }

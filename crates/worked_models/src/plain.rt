@@ -6,7 +6,7 @@ ghost use Rattle.map_meaning.specs.declared.program.Operand.TheVariants.{Initial
 ghost use Rattle.map_meaning.specs.declared.program.OutputKind.TheVariants.{InitialGrid};
 ghost use Rattle.map_meaning.specs.declared.program.Role.TheVariants.{Grid};
 ghost use Rattle.map_meaning.specs.Programs.{IsWellFormed};
-ghost use Rattle.map_meaning.specs.Spans.{Knows, whole_span};
+ghost use Rattle.map_meaning.specs.Spans.{IsSpan, Knows, whole_span};
 ghost use Rattle.worked_models.specs.Chain.{chain_inputs, chain_operations, chain_outputs, chain_program, is_input};
 
 use cell_values::Cell::{Mv, Val};
@@ -371,6 +371,7 @@ fn known(alloc: Global, a: &[Cell], b: &[Cell]) -> Result<Known, AllocError>
 // Runs the program.
 fn run(alloc: Global, program: Program, known: Known) -> Result<StageEnd, AllocError>
     requires program { IsWellFormed program }
+    requires span { IsSpan program (whole_span program) 1 }
     requires known { Knows program (whole_span program) known }
 {
     let span = Span::Initial {
