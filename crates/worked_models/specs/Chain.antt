@@ -26,8 +26,20 @@ chain_inputs = record { file = 65 ∷ []; role = Grid; kind = Scalar } ∷ recor
 -- an operation of a statement, with up to three operands
 abbrev pub chain_operation : Op → Kind → Operand → Operand → Operand → ℕ → ℕ → Bool → Operation
 chain_operation op kind a b c statement number kept =
-    record { op = op; kind = kind; a = a; b = b; c = c; d = Unused; drain = 0; file = 0; window = 0; statement = statement;
-        number = number; kept = kept }
+    record {
+      op = op;
+      kind = kind;
+      a = a;
+      b = b;
+      c = c;
+      d = Unused;
+      drain = 0;
+      file = 0;
+      window = 0;
+      statement = statement;
+      number = number;
+      kept = kept;
+    }
 
 -- the operations of the script, in post-order
 abbrev pub chain_operations : List Operation
@@ -56,8 +68,15 @@ chain_outputs =
 -- the whole
 abbrev pub chain_program : Program
 chain_program =
-    record { inputs = chain_inputs; initial = chain_operations; dynamic = []; drains = []; outputs = chain_outputs; area = 0;
-        steps = 0 }
+    record {
+      inputs = chain_inputs;
+      initial = chain_operations;
+      dynamic = [];
+      drains = [];
+      outputs = chain_outputs;
+      area = 0;
+      steps = 0;
+    }
 
 -- the cell is a scalar, or missing
 abbrev pub is_scalar : Cell → Bool
