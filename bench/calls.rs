@@ -1,8 +1,8 @@
 //! The calls of `crates/timed_calls` in stock Rust: the same loops over the same 16-byte cells, the best of as many rounds.
-//! It prints the lines that `timed_calls` prints for `cells`, `maps`, `tiles`, `table`, `turns`, `drains` and `windows`.
+//! It prints the lines that `timed_calls` prints for `cells`, `maps`, `tiles`, `table`, `turns`, `drains`, `windows` and `areas`.
 
 use std::cmp::Reverse;
-use std::collections::{HashMap, HashSet};
+use std::collections::{BTreeMap, HashMap, HashSet};
 use std::env;
 use std::hint::black_box;
 use std::sync::Mutex;
@@ -359,6 +359,37 @@ fn time_windows() {
     say("majority_near", 2, window_majority, 1, &classes);
 }
 
+/// The average of each class of a map, at each of its cells: an ordered map from classes to sums, as the program has, then a pass that spreads.
+#[inline(never)]
+fn area_average(a: &[Cell], classes: &[Cell]) -> (Vec<Cell>, Option<u32>) {
+    let mut sums: BTreeMap<i64, (i128, u32)> = BTreeMap::new();
+    for (cell, class) in a.iter().zip(classes) {
+        if let (Val(v), Val(class)) = (cell, class) { sum_and_count(sums.entry(*class).or_insert((0, 0)), *v) }
+    }
+    let averages: BTreeMap<i64, i128> = sums.into_iter().map(|(class, (total, count))| {
+        let size = ((total.unsigned_abs() + count as u128 / 2) / count as u128) as i128;
+        (class, if total < 0 { -size } else { size })
+    }).collect();
+    let mut over = None;
+    let cells = classes.iter().enumerate().map(|(i, class)| match class {
+        Mv => Mv,
+        Val(class) => match averages.get(class) {
+            None => Mv,
+            Some(&v) if -(MOST as i128) <= v && v <= MOST as i128 => Val(v as i64),
+            Some(_) => { if over.is_none() { over = Some(i as u32) } Mv }
+        },
+    }).collect();
+    (cells, over)
+}
+fn time_areas() {
+    let cells = drawn(SIDE * SIDE, 1442695040888963407, 33);
+    for (name, shift) in [("average_few", 60), ("average_many", 54)] {
+        let classes = drawn(SIDE * SIDE, 987654321, shift);
+        let (best, sum) = best_of(5, || black_box(area_average(black_box(&cells), black_box(&classes))).0.len());
+        println!("{name} {best} {sum}");
+    }
+}
+
 fn main() {
     match env::args().nth(1).as_deref() {
         Some("cells") => time_cells(100_000, 200),
@@ -368,6 +399,7 @@ fn main() {
         Some("turns") => time_turns(),
         Some("drains") => time_drains(),
         Some("windows") => time_windows(),
-        _ => println!("tiles | cells | maps | table | turns | drains | windows"),
+        Some("areas") => time_areas(),
+        _ => println!("tiles | cells | maps | table | turns | drains | windows | areas"),
     }
 }

@@ -1,6 +1,7 @@
-//! Times single calls, for `make bench`: `tiles`, `cells`, `maps`, `table`, `turns`, `drains` or `windows`. Without a word it says these.
+//! Times single calls, for `make bench`: `tiles`, `cells`, `maps`, `table`, `turns`, `drains`, `windows` or `areas`. Without a word it says these.
 #![tactic(auto)]
 
+mod areas;
 mod best;
 mod cells;
 mod drains;
@@ -9,6 +10,7 @@ mod tiles;
 mod turns;
 mod windows;
 
+use areas::time_areas;
 use cells::time_cells;
 use drains::time_drains;
 use std::env;
@@ -31,11 +33,12 @@ fn run<R: Clock + Env + Print + AllocGlobal + Wait>(rt: &R) -> Result<(), Fail> 
             b"turns" => time_turns(rt)?,
             b"drains" => time_drains(rt)?,
             b"windows" => time_windows(rt)?,
-            _ => println!(rt; "tiles | cells | maps | table | turns | drains | windows")?,
+            b"areas" => time_areas(rt)?,
+            _ => println!(rt; "tiles | cells | maps | table | turns | drains | windows | areas")?,
         }
         return Ok(());
     }
-    println!(rt; "tiles | cells | maps | table | turns | drains | windows")?;
+    println!(rt; "tiles | cells | maps | table | turns | drains | windows | areas")?;
     Ok(())
 }
 

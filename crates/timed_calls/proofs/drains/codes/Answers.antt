@@ -1,4 +1,4 @@
-use Rattle.std.proofs.Common.{◌≡◌, ◌<◌, ◌+◌, ◌++◌, ◌∷◌, ◌∙◌, ◌⊎◌, ℕ, List, [], length, get_or, sym, subst, arith, inl, inr}
+use Rattle.std.proofs.Common.{◌++◌, ◌∷◌, ℕ, List, [], length, sym, subst, arith, inl, inr}
 use Rattle.std.proofs.lemmas.Bool.{cases_eq, cases_lt}
 use Rattle.std.proofs.lemmas.List.{get_or_append_left, get_or_past, get_or_push, length_push}
 use Rattle.cell_values.specs.declared.cell.Cell.{Cell}
