@@ -3,6 +3,7 @@ pub mod Callers
 pub mod EndLemmas
 pub mod MapLemmas
 pub mod MaskLemmas
+pub mod MissingLemmas
 pub mod PathLemmas
 pub mod SumLemmas
 pub mod UnsoundLemmas

@@ -1,19 +1,24 @@
 -- What holds of all sound drain maps.
-use Rattle.std.specs.Prelude.{◌≡◌, ℕ, ◌<◌, List, ◌∷◌, length, map, Option, Some, None}
+use Rattle.std.specs.Prelude.{◌≡◌, ◌↔◌, ◌⊎◌, ℕ, ◌<◌, List, ◌∷◌, length, map, Option, Some, None, Ok}
 use Rattle.std.specs.List.{filter, range_with_len}
 use Rattle.cell_values.specs.declared.cell.Cell.{Cell}
+use Rattle.cell_values.specs.declared.cell.Cell.TheVariants as cell
+use Rattle.cell_values.specs.declared.kind.Kind.{Kind}
 use Rattle.drain_meaning.specs.declared.end.FlowEnd.{FlowEnd}
 use Rattle.drain_meaning.specs.declared.next.Next.TheVariants as next
 use Rattle.drain_meaning.specs.declared.op.FlowOp.TheVariants as op
+use Rattle.drain_meaning.specs.declared.op.NearOp.{NearOp}
+use Rattle.drain_meaning.specs.declared.op.NearOp.TheVariants.{Upstream, Downstream}
 use Rattle.drain_meaning.specs.Accumulation.{accuflux_of, catchment_of, is_pit}
 use Rattle.drain_meaning.specs.Drains.{DrainMap, IsDrainMap, next_at}
 use Rattle.drain_meaning.specs.Equations.{passing, transport_of}
 use Rattle.drain_meaning.specs.Flows.{material, total_flow}
 use Rattle.drain_meaning.specs.Masks.{lddmask_of, leads_on}
+use Rattle.drain_meaning.specs.Near.{near_outcome}
 use Rattle.drain_meaning.specs.Paths.{IsDirected, IsFirstUnsound, IsFollowedBy, IsSound, path_of}
 use Rattle.drain_meaning.specs.Sound.{IsDrain}
 use Rattle.drain_meaning.specs.inside.FirstUnsound.{first_unsound}
-use Rattle.drain_meaning.specs.Transports.{AreEnds, Transport, end_of}
+use Rattle.drain_meaning.specs.Transports.{AreEnds, Transport, end_of, transport_outcome}
 
 -- the cell that another one drains into is a cell of the map
 abbrev pub StayInTheMap : Type 0
@@ -66,3 +71,22 @@ FindTheFirstUnsound = (m : DrainMap) → HasFirstUnsound m (first_unsound m)
 -- the part of a sound map that a mask keeps is a sound map
 abbrev pub StaySound : Type 0
 StaySound = (m : DrainMap) (mask : ℕ → Cell) → IsDrain m → IsDrain (lddmask_of m mask)
+
+-- a step looks at the value of a cell: up stream at those that drain directly into c, down stream at the one that c drains into,
+-- at a pit at its own
+abbrev pub IsLookedAt : NearOp → DrainMap → ℕ → ℕ → Type 0
+IsLookedAt Upstream m c u = next_at m u ≡ next.Cell c
+IsLookedAt Downstream m c u = (next_at m c ≡ next.Cell u) ⊎ ((next_at m c ≡ next.Pit) × (u ≡ c))
+
+-- on a sound map a step is missing exactly where there is no direction, or a value that it looks at is missing
+abbrev pub StepsAreMissing : Type 0
+StepsAreMissing =
+    (o : NearOp) (m : DrainMap) (values : ℕ → Cell) → IsSound m → (c : ℕ) →
+    (near_outcome o m values c ≡ Ok cell.Mv)
+    ↔ ((next_at m c ≡ next.Missing) ⊎ ((u : ℕ) × IsLookedAt o m c u × (values u ≡ cell.Mv)))
+
+-- a transport is missing where there is no direction
+abbrev pub TransportsAreMissing : Type 0
+TransportsAreMissing =
+    (t : Transport) (kind : Kind) (m : DrainMap) (a b : ℕ → Cell) (c : ℕ) → next_at m c ≡ next.Missing →
+    transport_outcome t kind m a b c ≡ Ok cell.Mv

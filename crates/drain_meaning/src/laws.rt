@@ -1,7 +1,7 @@
 //! What holds of all drain maps, in the subject's words.
 
 ghost use Rattle.drain_meaning.specs.Examples.{MapExamples, TransportExamples};
-ghost use Rattle.drain_meaning.specs.Laws.{AreTheOnlyEnds, ChooseOnPaths, FindTheFirstUnsound, KeepMass, ListTheirCells, MeetTheirEquation, StayInTheMap, StaySound, SumOverPaths};
+ghost use Rattle.drain_meaning.specs.Laws.{AreTheOnlyEnds, ChooseOnPaths, FindTheFirstUnsound, KeepMass, ListTheirCells, MeetTheirEquation, StayInTheMap, StaySound, StepsAreMissing, SumOverPaths, TransportsAreMissing};
 
 /// Worked examples come out as they were worked out by hand.
 pub fn worked_examples_come_out()
@@ -49,4 +49,11 @@ pub fn catchments_choose_on_paths()
 /// The part of a sound drain map that a mask keeps is a sound drain map.
 pub fn masked_maps_stay_sound()
     ensures { StaySound }
+{}
+
+/// A step up or down stream is missing exactly where there is no direction, or where a value that it looks at is missing; a
+/// transport is missing where there is no direction.
+pub fn missing_directions_give_missing_values()
+    ensures steps { StepsAreMissing }
+    ensures transports { TransportsAreMissing }
 {}
