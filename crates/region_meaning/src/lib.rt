@@ -9,5 +9,5 @@ mod laws;
 mod window;
 
 pub use area::AreaOp;
-pub use laws::a_majority_is_the_most_frequent;
+pub use laws::{a_majority_is_the_most_frequent, regions_without_values_are_missing};
 pub use window::WindowOp;
