@@ -1,5 +1,7 @@
 -- What a folder of the system tells.
-use Rattle.std.specs.Prelude.{None}
+use Rattle.std.specs.Prelude.{◌≡◌, ◌⊎◌, ℕ, true, ◌==◌, List, None}
+use Rattle.std.specs.List.{list_any}
+use Rattle.std.specs.Str.{IsUtf8}
 use Rattle.outside_io.specs.State.{FolderState}
 use Rattle.outside_io.specs.declared.file_folder.FileFolder.{FileFolder}
 
@@ -17,3 +19,11 @@ file_folder_state folder = record {
 -- nothing happened to it
 abbrev pub nothing_happened : FolderState
 nothing_happened = record { holds = None; puts = None; read_faults = 0; put_faults = 0; absents = 0; overlongs = 0 }
+
+-- `/`, which parts the folders of a path
+abbrev pub path_slash : ℕ
+path_slash = 47
+
+-- the bytes name no file of a folder of the system: a slash is among them, or they are no text
+abbrev pub NamesNoFile : List ℕ → Type 0
+NamesNoFile name = (list_any (λ b. b == path_slash) name ≡ true) ⊎ (IsUtf8 name → ⊥)

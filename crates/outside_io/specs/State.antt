@@ -61,7 +61,7 @@ pub record IsPut (old new : FolderState) (name bytes : List ℕ) : Type 0 where
 -- the same files under every other name
 abbrev pub SameOthers : List ℕ → Option Files → Option Files → Type 0
 SameOthers name None None = ⊤
-SameOthers name None (Some new) = ⊤
+SameOthers name None (Some new) = ⊥
 SameOthers name (Some old) None = ⊥
 SameOthers name (Some old) (Some new) = (other : List ℕ) → other ≢ name → get new other ≡ get old other
 

@@ -1,10 +1,11 @@
-ghost use Rattle.std.specs.Prelude.{◌≡◌, ◌⊎◌, ◌↔◌, ◌+◌, ◌<◌, ◌≤◌, length, take, IfErr, IfOk, IfSome, Ok, IsErrOf, MatchResult};
+ghost use Rattle.std.specs.Prelude.{◌≡◌, ◌⊎◌, ◌↔◌, ◌+◌, ◌<◌, ◌≤◌, length, take, Err, IfErr, IfOk, IfSome, Ok, IsErrOf, MatchOption, MatchResult};
+ghost use Rattle.std.specs.Fs.{IsFile, file_type, metadata_len};
 ghost use Rattle.std.specs.IoError.{error_kind};
 ghost use Rattle.std.specs.Io.KnownBytes.{Consumes, IsAtEnd, Keeps};
 ghost use Rattle.outside_io.specs.State.{IsFound, ReadKeeps, IsPut, PutKeeps};
 ghost use Rattle.outside_io.specs.Refusals.{ReadRefused, PutRefused};
 ghost use Rattle.outside_io.specs.Counts.{counts_of, after_read, after_put};
-ghost use Rattle.outside_io.specs.FileFolder.{file_folder_state, nothing_happened};
+ghost use Rattle.outside_io.specs.FileFolder.{NamesNoFile, file_folder_state, nothing_happened};
 ghost use Rattle.outside_io.specs.inside.Reading.{TakesAtMost};
 
 use crate::{Folder, PutEnd, ReadEnd};
@@ -53,6 +54,7 @@ impl<R: Files + Drop> Folder for FileFolder<R> {
             (ReadRefused (file_folder_state self.old) (file_folder_state self.new) name.now limit) }
         ensures keeps { ReadKeeps (file_folder_state self.old) (file_folder_state self.new) }
         ensures counts { counts_of (file_folder_state self.new) ≡ after_read (counts_of (file_folder_state self.old)) result }
+        ensures nameless { NamesNoFile name.now → IsErrOf result ReadEnd.Failed }
     {
         match read_file(&self.rt, alloc, name, limit) {
             Ok(bytes) => Ok(bytes),
@@ -78,6 +80,7 @@ impl<R: Files + Drop> Folder for FileFolder<R> {
             (PutRefused (file_folder_state self.old) (file_folder_state self.new) name.now) }
         ensures keeps { PutKeeps (file_folder_state self.old) (file_folder_state self.new) }
         ensures counts { counts_of (file_folder_state self.new) ≡ after_put (counts_of (file_folder_state self.old)) result }
+        ensures nameless { NamesNoFile name.now → IsErrOf result PutEnd.Failed }
     {
         match put_file(&self.rt, name, bytes) {
             Ok(()) => Ok(()),
@@ -94,6 +97,7 @@ impl<R: Files + Drop> Folder for FileFolder<R> {
 fn look_end(error: &io::Error) -> ReadEnd
     ensures absent { (result ≡ ReadEnd.Absent) ↔ (error_kind error.now ≡ ErrorKind.NotFound) }
     ensures memory { (result ≡ ReadEnd.Memory) ↔ (error_kind error.now ≡ ErrorKind.OutOfMemory) }
+    ensures short { result ≡ ReadEnd.TooLong → ⊥ }
 {
     match error.kind() {
         ErrorKind::NotFound => ReadEnd::Absent,
@@ -123,7 +127,9 @@ fn put_end(error: &io::Error) -> PutEnd
 }
 
 // The path of a name in the current folder.
-fn path_of(name: &[u8]) -> Option<&str> {
+fn path_of(name: &[u8]) -> Option<&str>
+    ensures { MatchOption result (NamesNoFile name.now) (λ path. (path.now ≡ name.now) × (NamesNoFile name.now → ⊥)) }
+{
     if name.contains(&b'/') {
         return None;
     }
@@ -133,21 +139,33 @@ fn path_of(name: &[u8]) -> Option<&str> {
     }
 }
 
+// How long a file is that is to be read, at most `limit`. What is no ordinary file is a fault.
+fn size_within(found: &fs::Metadata, limit: u64) -> Result<u64, ReadEnd>
+    ensures file { IfOk result (λ size. IsFile (file_type found.now) × (size ≡ metadata_len found.now) × (size ≤ limit)) }
+    ensures long { (result ≡ Err ReadEnd.TooLong) ↔ (IsFile (file_type found.now) × (limit < metadata_len found.now)) }
+    ensures err { IfErr result (λ end. (end ≡ ReadEnd.TooLong) ⊎ ((end ≡ ReadEnd.Failed) × (IsFile (file_type found.now) → ⊥))) }
+{
+    if !found.is_file() {
+        return Err(ReadEnd::Failed);
+    }
+    if found.len() > limit {
+        return Err(ReadEnd::TooLong);
+    }
+    Ok(found.len())
+}
+
 // All bytes of a file, at most `limit` of them. Opening a pipe could wait forever, so its kind is asked for first.
 fn read_file<R: Files>(rt: &R, alloc: Global, name: &[u8], limit: u64) -> Result<Vec<u8>, ReadEnd>
-    ensures { IfOk result (λ bytes. length bytes.items ≤ limit) }
+    ensures short { IfOk result (λ bytes. length bytes.items ≤ limit) }
+    ensures nameless { NamesNoFile name.now → result ≡ Err ReadEnd.Failed }
 {
     let Some(path) = path_of(name) else {
         return Err(ReadEnd::Failed);
     };
     let size = match fs::metadata(rt, path) {
-        Ok(found) if found.is_file() => found.len(),
-        Ok(_) => return Err(ReadEnd::Failed),
+        Ok(found) => size_within(&found, limit)?,
         Err(error) => return Err(look_end(&error)),
     };
-    if size > limit {
-        return Err(ReadEnd::TooLong);
-    }
     match fs::open(rt, path) {
         Ok(mut file) => read_all(alloc, &mut file, size, limit),
         Err(error) => Err(look_end(&error)),
@@ -205,7 +223,9 @@ fn read_all<F: Read>(alloc: Global, file: &mut F, size: u64, limit: u64) -> Resu
 }
 
 // Sets the bytes of a file. What is no ordinary file is left alone.
-fn put_file<R: Files>(rt: &R, name: &[u8], bytes: &[u8]) -> Result<(), PutEnd> {
+fn put_file<R: Files>(rt: &R, name: &[u8], bytes: &[u8]) -> Result<(), PutEnd>
+    ensures { NamesNoFile name.now → result ≡ Err PutEnd.Failed }
+{
     let Some(path) = path_of(name) else {
         return Err(PutEnd::Failed);
     };
