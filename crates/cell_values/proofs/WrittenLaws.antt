@@ -12,7 +12,7 @@ use Rattle.std.proofs.lemmas.Nat.{pow-add, same_from_place}
 use Rattle.text_base.proofs.Callers.{bool_cases}
 use Rattle.cell_values.specs.declared.kind.Kind.{Kind}
 use Rattle.cell_values.specs.declared.kind.Kind.TheVariants.{Boolean, Nominal, Ordinal, Scalar, Directional, Ldd}
-use Rattle.cell_values.specs.declared.cell.Cell.TheVariants.{Val}
+use Rattle.cell_values.specs.declared.cell.Cell.TheVariants.{Mv, Val}
 use Rattle.cell_values.specs.Units.{million}
 use Rattle.cell_values.specs.Kinds.{IsValue}
 use Rattle.cell_values.specs.Decimal.{are_digits, denominator, size_of}
@@ -231,9 +231,10 @@ printed_written Scalar z value = millionths_case Scalar z refl value
 printed_written Directional z value = millionths_case Directional z refl value
 printed_written Ldd z value = whole_case Ldd z refl value
 
--- a value of a kind has one such text
+-- a cell of a kind has one such text
 pub written_unique : WrittenTextsAreUnique
-written_unique kind z text value = (
+written_unique kind Mv text any = (λ written. written, λ same. same)
+written_unique kind (Val z) text value = (
   λ written. unique kind z text (printed_cell kind (Val z)) (small_value kind z value) written (printed_written kind z value),
   λ same. subst (IsWritten kind z) (sym same) (printed_written kind z value),
 )

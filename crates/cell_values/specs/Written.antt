@@ -1,13 +1,14 @@
--- The one text of a number of a kind.
+-- The one text of a cell of a kind.
 use Rattle.std.specs.Prelude.{◌≡◌, ◌≢◌, ◌↔◌, ℕ, ◌-◌, ◌*◌, ◌^◌, ◌<◌, IsTrue, List, [], ◌∷◌, ◌++◌, length, codes, slice_index}
 use Rattle.std.specs.Prelude.{ℤ, pos, unsigned_abs, int_lt, if◌then◌else◌}
 use Rattle.std.specs.Str.Parse.{digits_value}
 use Rattle.text_base.specs.Bytes.{point, zero_digit}
 use Rattle.cell_values.specs.declared.kind.Kind.{Kind}
 use Rattle.cell_values.specs.declared.kind.Kind.TheVariants.{Boolean, Nominal, Ordinal, Scalar, Directional, Ldd}
-use Rattle.cell_values.specs.declared.cell.Cell.TheVariants.{Val}
+use Rattle.cell_values.specs.declared.cell.Cell.{Cell}
+use Rattle.cell_values.specs.declared.cell.Cell.TheVariants.{Mv, Val}
 use Rattle.cell_values.specs.Units.{million}
-use Rattle.cell_values.specs.Kinds.{IsValue}
+use Rattle.cell_values.specs.Kinds.{IsCell}
 use Rattle.cell_values.specs.Decimal.{are_digits}
 use Rattle.cell_values.specs.inside.Printed.{printed_cell}
 
@@ -43,8 +44,13 @@ pub record IsWritten (kind : Kind) (number : ℤ) (text : List ℕ) : Type 0 whe
   pub first : 1 < length whole → slice_index whole 0 ≢ zero_digit
   pub last : 0 < length fraction → slice_index fraction (length fraction - 1) ≢ zero_digit
 
--- a value of a kind has one such text, and it is the one that is printed
+-- the text writes a cell of the kind: `1e31` where it is missing, and else its number
+abbrev pub IsWrittenCell : Kind → Cell → List ℕ → Type 0
+IsWrittenCell kind Mv text = text ≡ codes "1e31"
+IsWrittenCell kind (Val number) text = IsWritten kind number text
+
+-- a cell of a kind has one such text, and it is the one that is printed
 abbrev pub WrittenTextsAreUnique : Type 0
 WrittenTextsAreUnique =
-    (kind : Kind) (number : ℤ) (text : List ℕ) → IsValue kind number
-    → IsWritten kind number text ↔ (text ≡ printed_cell kind (Val number))
+    (kind : Kind) (cell : Cell) (text : List ℕ) → IsCell kind cell
+    → IsWrittenCell kind cell text ↔ (text ≡ printed_cell kind cell)

@@ -116,7 +116,7 @@ pub fn print_cell(
     }
 }
 
-/// A value of a kind has one written text, which is the one that is printed.
+/// A cell of a kind has one written text, which is the one that is printed.
 pub fn written_texts_are_unique()
     ensures { WrittenTextsAreUnique }
 {}

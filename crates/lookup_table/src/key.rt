@@ -23,7 +23,7 @@ pub struct KeyRange {
 impl KeyRange {
     /// Whether the number is one of them.
     #[inline]
-    pub fn has(&self, number: i64) -> bool
+    pub(crate) fn has(&self, number: i64) -> bool
         ensures { result ≡ lies_in self.now number }
     {
         self.first <= number && number <= self.last

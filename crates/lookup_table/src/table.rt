@@ -136,7 +136,7 @@ impl Table {
     ghost use Rattle.lookup_table.specs.inside.Steps.{table_view};
 
     /// The table of these rows. Notes whether it can be searched by halving.
-    pub fn of_rows(keys: u32, kind: Kind, rows: Vec<Row>) -> Table
+    pub(crate) fn of_rows(keys: u32, kind: Kind, rows: Vec<Row>) -> Table
         requires some { 1 ≤ keys }
         requires few { keys ≤ 4 }
         requires values { All (λ row. IsValue kind row.result) rows.items }
