@@ -4,3 +4,4 @@ pub mod TokensUnique
 pub mod LineLaws
 pub mod LinesUnique
 pub mod DigitLaws
+pub mod Ends

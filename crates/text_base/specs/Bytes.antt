@@ -1,5 +1,5 @@
 -- Bytes by name, and the classes of bytes that the texts are made of. Digits are those of std, `is_ascii_digit`.
-use Rattle.std.specs.Prelude.{ℕ, Bool, ◌||◌, ◌==◌}
+use Rattle.std.specs.Prelude.{◌≡◌, ℕ, Bool, ◌||◌, ◌==◌, List, ◌++◌}
 use Rattle.std.specs.Char.{is_ascii_alphabetic, is_ascii_digit}
 
 -- the tab
@@ -61,3 +61,7 @@ is_word_byte b = is_letter b || is_ascii_digit b || (b == underscore)
 -- a letter, a digit, `_`, `.`, `-` or `+`
 abbrev pub is_file_byte : ℕ → Bool
 is_file_byte b = is_word_byte b || (b == point) || (b == hyphen) || (b == plus)
+
+-- the text ends with these bytes
+abbrev pub EndsWith : List ℕ → List ℕ → Type 0
+EndsWith text end = (before : List ℕ) × (text ≡ before ++ end)

@@ -3,7 +3,7 @@
 use Rattle.std.specs.Prelude.{◌≡◌, ◌↔◌, ℕ, ◌+◌, ◌<◌, Bool, true, false, ◌==◌, not, ◌⊎◌, List, [], ◌∷◌, ◌++◌, map, filter, count_by}
 use Rattle.std.specs.List.{All, AllPairs, Contains, enumerate_from, list_all, slice_split}
 use Rattle.text_base.specs.declared.line.Line as slices
-use Rattle.text_base.specs.Bytes.{is_blank, line_feed}
+use Rattle.text_base.specs.Bytes.{is_blank, line_feed, EndsWith}
 
 -- a line, and its number from 1
 pub record Line : Type 0 where
@@ -56,6 +56,10 @@ lines_at number bytes =
 -- the lines of a text that have more than blanks
 abbrev pub lines_of : List ℕ → List Line
 lines_of text = lines_at 1 text
+
+-- the text ends with the line, the line feed that ends it and the rest; or with the line, and there is no rest
+abbrev pub EndsWithLine : List ℕ → List ℕ → List ℕ → Type 0
+EndsWithLine text line rest = EndsWith text (line ++ line_feed ∷ rest) ⊎ (EndsWith text line × (rest ≡ []))
 
 -- a line that is a slice of a text, as a line
 abbrev pub line_view : slices.Line → Line

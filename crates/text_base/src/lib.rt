@@ -13,7 +13,10 @@ mod token;
 mod word;
 
 pub use byte::{is_blank, is_file_byte, is_letter, is_word_byte};
-pub use limits::{LONGEST_NUMBER, LONGEST_WORD, MOST_CELLS, MOST_SCRIPT_BYTES, MOST_TEXT_BYTES};
+pub use limits::{
+    LONGEST_NUMBER, LONGEST_WORD, MOST_CELLS, MOST_SCRIPT_BYTES, MOST_TEXT_BYTES,
+    limits_are_those_named,
+};
 pub use line::{Line, lines_are_unique, next_line};
 pub use number::whole_number;
 pub use token::{Token, ends_token, next_token, skip_blanks, tokens_are_unique};

@@ -3,7 +3,7 @@
 ghost use Rattle.std.specs.Prelude.{◌≡◌, ◌+◌, ◌^◌, ◌<◌, ◌≤◌, [], ◌∷◌, length, MatchOption, IfSome};
 ghost use Rattle.std.specs.List.{list_all, position_or_len};
 ghost use Rattle.text_base.specs.Bytes.{is_blank};
-ghost use Rattle.text_base.specs.Lines.{is_line_feed, line_view, lines_at, LinesAreUnique};
+ghost use Rattle.text_base.specs.Lines.{is_line_feed, line_view, lines_at, EndsWithLine, LinesAreUnique};
 ghost use Rattle.text_base.specs.inside.Steps.{IsCutAtLine};
 
 use crate::byte::is_blank;
@@ -49,11 +49,13 @@ fn cut_line(text: &[u8]) -> (&[u8], &[u8])
 /// The first line that has more than blanks of bytes that stand in a text from the line of this
 /// number on, and the bytes behind its line feed; `None` where only blanks are left. The bytes behind
 /// it stand from the next line on. Takes time in proportion to the bytes that it passes.
+#[tactic(auto, using(crate::proofs::Ends::ends_with_line))]
 pub fn next_line(number: u32, bytes: &[u8]) -> Option<(Line<'_>, &[u8])>
     requires { number + length bytes.now < 2 ^ 32 }
     ensures lines { MatchOption result
         (lines_at number bytes.now ≡ [])
         (λ found. lines_at number bytes.now ≡ line_view found.0 ∷ lines_at (found.0.number + 1) found.1.now) }
+    ensures behind { IfSome result (λ found. EndsWithLine bytes.now found.0.bytes.now found.1.now) }
     ensures shorter { IfSome result (λ found. length found.1.now < length bytes.now) }
     ensures few { IfSome result (λ found. found.0.number + 1 + length found.1.now ≤ number + length bytes.now) }
 {

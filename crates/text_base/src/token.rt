@@ -1,7 +1,8 @@
 //! The tokens of a text, one after the other.
 
-ghost use Rattle.std.specs.Prelude.{◌≡◌, ◌<◌, ◌≤◌, ℕ, true, [], ◌∷◌, length, take, drop, MatchOption, IfSome};
+ghost use Rattle.std.specs.Prelude.{◌≡◌, ◌<◌, ◌≤◌, ℕ, true, [], ◌∷◌, ◌++◌, length, take, drop, MatchOption, IfSome};
 ghost use Rattle.std.specs.List.{list_all};
+ghost use Rattle.text_base.specs.Bytes.{EndsWith};
 ghost use Rattle.text_base.specs.Tokens.{ends_token, token_view, tokens_left, TokensAreUnique};
 ghost use Rattle.text_base.specs.inside.Steps.{is_token_byte};
 ghost use Rattle.text_base.specs.Tokens.{IsEmptyOrToken};
@@ -33,6 +34,7 @@ pub fn skip_blanks(text: &[u8]) -> &[u8]
     ensures shorter { length result.now ≤ length text.now }
     ensures same { (text_len : ℕ) → length text.now ≤ text_len → tokens_left text_len result.now ≡ tokens_left text_len text.now }
     ensures at_token { IsEmptyOrToken result.now }
+    ensures end { EndsWith text.now result.now }
 {
     let mut rest = text;
     while let Some((first, after)) = rest.split_first() {
@@ -67,6 +69,7 @@ pub fn next_token(text_len: usize, bytes: &[u8]) -> Option<(Token<'_>, &[u8])>
     ensures tokens { MatchOption result
         (tokens_left text_len bytes.now ≡ [])
         (λ found. tokens_left text_len bytes.now ≡ token_view found.0 ∷ tokens_left text_len found.1.now) }
+    ensures behind { IfSome result (λ found. EndsWith bytes.now (found.0.bytes.now ++ found.1.now)) }
     ensures shorter { IfSome result (λ found. length found.1.now < length bytes.now) }
 {
     let rest = skip_blanks(bytes);
