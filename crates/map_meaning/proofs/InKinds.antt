@@ -168,7 +168,7 @@ of_left (Val a) (Val b) ha = of_cell_choice Scalar Mv (Val (a -ℤ (b *ℤ int_d
 exactly : (n k : ℕ) → (n == k) ≡ true → n ≡ k
 exactly n k h = grind arith
 
-from_least : (n low high : ℕ) → (nat_le low n && nat_le n high) ≡ true → low ≤ n
+pub from_least : (n low high : ℕ) → (nat_le low n && nat_le n high) ≡ true → low ≤ n
 from_least n low high h = let parts = and_parts (nat_le low n) (nat_le n high) h in grind (arith, parts.0)
 
 -- an operand that is asked to agree has the kind of the first
@@ -258,7 +258,7 @@ of_flow kind flow.Mv = tt
 of_flow kind (flow.Num z) = of_number kind z
 
 -- no transport without a row has operands
-no_row : (n : ℕ) → (nat_le 1 n && nat_le n 0) ≡ true → ⊥
+pub no_row : (n : ℕ) → (nat_le 1 n && nat_le n 0) ≡ true → ⊥
 no_row n h = let parts = and_parts (nat_le 1 n) (nat_le n 0) h in grind (arith, parts.0, parts.1)
 
 -- ---- the operations

@@ -1,3 +1,4 @@
+mod FlowsInRange
 pub mod Callers
 pub mod InKinds
 pub mod WholeMaps

@@ -1,9 +1,9 @@
 -- Worked examples: what the definitions give at cells, programs and statements that were worked out by hand.
-use Rattle.std.specs.Prelude.{◌≡◌, ℕ, ◌*◌, ◌==◌, Bool, true, false, List, [], ◌∷◌, pos, neg_ℤ, map, codes}
+use Rattle.std.specs.Prelude.{◌≡◌, ℕ, ◌*◌, ◌==◌, Bool, true, false, List, [], ◌∷◌, ℤ, pos, neg_ℤ, map, codes}
 use Rattle.std.specs.Prelude.{Option, Some, None, Result, Ok, Err}
 use Rattle.std.specs.List.{filter}
 use Rattle.cell_values.specs.declared.kind.Kind.{Kind}
-use Rattle.cell_values.specs.declared.kind.Kind.TheVariants.{Boolean, Nominal, Ordinal, Scalar, Ldd}
+use Rattle.cell_values.specs.declared.kind.Kind.TheVariants.{Boolean, Nominal, Ordinal, Scalar, Directional, Ldd}
 use Rattle.cell_values.specs.declared.cell.Cell.{Cell}
 use Rattle.cell_values.specs.declared.cell.Cell.TheVariants.{Mv, Val}
 use Rattle.lookup_table.specs.declared.key.KeyRange.{KeyRange}
@@ -33,9 +33,10 @@ use Rattle.map_meaning.specs.declared.tree.Tree.TheVariants as tree
 use Rattle.map_meaning.specs.Local.{truth}
 use Rattle.map_meaning.specs.Rules.{Setting, no_series, no_table, of_kinds, outcome_of}
 use Rattle.map_meaning.specs.Table.{HasKinds, map_row, row_of}
-use Rattle.map_meaning.specs.Scenes.{Scene}
+use Rattle.map_meaning.specs.Scenes.{Scene, setting_at}
 use Rattle.map_meaning.specs.Sections.{After, section_value}
 use Rattle.map_meaning.specs.Spans.{stage_of, whole_span}
+use Rattle.map_meaning.specs.StackNames.{stack_file}
 
 -- ---- an operation at the places of maps
 
@@ -207,6 +208,24 @@ over_grid cells = record {
 abbrev pub over_in_column_two : ℕ → ℕ → ℕ → OverAt
 over_in_column_two step statement number = record { step = step; statement = statement; operation = number; row = 1; col = 2 }
 
+-- a scalar whose double is out of range
+abbrev pub too_much : Cell
+too_much = whole_scalar 9000000000000
+
+-- what is known of a grid of two rows
+abbrev pub over_square : List Cell → Known
+over_square cells = record {
+  rows = 2;
+  cols = 2;
+  maps = cells ∷ [];
+  tables = [];
+  series = [];
+  drains = [];
+  stacks = [];
+  initial = [];
+  last = [];
+}
+
 -- what its span gives
 pub record ProgramExamples : Type 0 where
   -- 1 and 2 give 2 and 4
@@ -215,6 +234,9 @@ pub record ProgramExamples : Type 0 where
   -- 1 and 9,000,000,000,000 give an Over in the second column
   pub beyond : stage_of doubled (whole_span doubled) (over_grid (whole_scalar 1 ∷ whole_scalar 9000000000000 ∷ []))
       ≡ record { maps = []; over = Some (over_in_column_two 0 1 1) }
+  -- of two Overs in the second row the first is told
+  pub below : (stage_of doubled (whole_span doubled) (over_square (whole_scalar 1 ∷ whole_scalar 2 ∷ too_much ∷ too_much ∷ []))).over
+      ≡ Some (record { step = 0; statement = 1; operation = 1; row = 2; col = 1 })
 
 -- ---- statements over whole maps
 
@@ -259,6 +281,15 @@ going_over =
     ∷ statement (codes "D") op.Mul grid (tree.Call Scalar op.Add (tree.Call Scalar op.Sub (grid ∷ named (codes "C") ∷ []) ∷ grid ∷ []))
     ∷ []
 
+-- `D = (A - A) * (A + A);`
+abbrev pub over_behind : List Statement
+over_behind =
+    statement (codes "D") op.Mul (tree.Call Scalar op.Sub (grid ∷ grid ∷ [])) (tree.Call Scalar op.Add (grid ∷ grid ∷ [])) ∷ []
+
+-- `W = windowtotal(A, 3);`
+abbrev pub over_windows : List Statement
+over_windows = record { target = codes "W"; value = tree.CallWith Scalar op.WindowTotal 0 3 (grid ∷ []) } ∷ []
+
 -- what sections of statements give
 pub record SectionExamples : Type 0 where
   -- C has the cells of A again, and D those that C had above
@@ -269,6 +300,12 @@ pub record SectionExamples : Type 0 where
   -- over 1 and 9,000,000,000,000 at step 3 the sum, which is the second operation of its statement, is Over before the product
   pub first : map_named (codes "D") (section_value (scene_over 3 (whole_scalar 1) (whole_scalar 9000000000000)) 1 unassigned going_over)
       ≡ Err (over_in_column_two 3 2 2)
+  -- the operations of the first operand count before those of the second
+  pub behind : map_named (codes "D") (section_value (scene_over 3 (whole_scalar 1) (whole_scalar 9000000000000)) 1 unassigned over_behind)
+      ≡ Err (over_in_column_two 3 1 2)
+  -- an operation that is told the length of its window: both cells have 1 and 2 in theirs
+  pub told : map_named (codes "W") (section_value (scene_over 0 (whole_scalar 1) (whole_scalar 2)) 1 unassigned over_windows)
+      ≡ Ok (whole_scalar 3 ∷ whole_scalar 3 ∷ [])
 
 -- ---- statements at steps
 
@@ -480,6 +517,42 @@ abbrev pub cells_of_step : ℕ → List Cell → ℕ → List Cell
 cells_of_step step ids places =
     (part_of (outcome_of op.TimeInputScalar (told_series step) (cell_at ids ∷ [])) places).cells
 
+-- the table of the line `1 2 3 4 9`
+abbrev pub of_four_keys : TableValue
+of_four_keys = record {
+  keys = 4;
+  kind = Ordinal;
+  rows = record { keys = the_number 1 ∷ the_number 2 ∷ the_number 3 ∷ the_number 4 ∷ []; result = pos 9 } ∷ [];
+}
+
+-- what a lookup with a key gives of 1 and 2, where the table has the line of 1 and this result
+abbrev pub looked_up_once : Op → Kind → ℤ → List Cell
+looked_up_once o kind result =
+    looked_up o (record { keys = 1; kind = kind; rows = record { keys = the_number 1 ∷ []; result = result } ∷ [] }) (Scalar ∷ [])
+    ((whole_scalar 1 ∷ whole_scalar 2 ∷ []) ∷ []) 2
+
+-- what an operation gives of the ids 1 and 2 at step 7, where the series has the line of that step and this cell
+abbrev pub read_once : Op → Kind → Cell → List Cell
+read_once o kind cell =
+    (part_of
+    (outcome_of o
+    (record {
+      kinds = Nominal ∷ [];
+      rows = 0;
+      cols = 0;
+      step = 7;
+      table = no_table;
+      series = record { kind = kind; rows = record { step = 7; cells = cell ∷ [] } ∷ [] };
+      window = 0;
+    })
+    (cell_at (Val (pos 1) ∷ Val (pos 2) ∷ []) ∷ []))
+    2).cells
+
+-- a scene with two tables
+abbrev pub scene_with_tables : Scene
+scene_with_tables =
+    record { rows = 1; cols = 1; step = 0; inputs = []; tables = no_table ∷ from_ten ∷ []; series = []; stacks = [] }
+
 -- what lookups and series give
 pub record FileExamples : Type 0 where
   -- 10, 9.999999 and -1
@@ -496,6 +569,31 @@ pub record FileExamples : Type 0 where
       ≡ whole_scalar 4 ∷ whole_scalar 8 ∷ Mv ∷ Mv ∷ Mv ∷ Mv ∷ []
   pub no_row : cells_of_step 2 (Val (pos 1) ∷ []) 1 ≡ Mv ∷ []
   pub missing_cell : cells_of_step 3 (Val (pos 1) ∷ Val (pos 2) ∷ []) 2 ≡ whole_scalar 2 ∷ Mv ∷ []
+  -- four keys: all of them count, each at its place
+  pub four_keys : looked_up op.LookupOrdinal of_four_keys (Scalar ∷ Scalar ∷ Nominal ∷ Scalar ∷ [])
+      ((whole_scalar 1 ∷ whole_scalar 1 ∷ whole_scalar 1 ∷ [])
+      ∷ (whole_scalar 2 ∷ whole_scalar 2 ∷ whole_scalar 2 ∷ [])
+      ∷ (Val (pos 3) ∷ Val (pos 4) ∷ Val (pos 3) ∷ [])
+      ∷ (whole_scalar 4 ∷ whole_scalar 4 ∷ Mv ∷ [])
+      ∷ [])
+      3 ≡ Val (pos 9) ∷ Mv ∷ Mv ∷ []
+  -- an operation is told the table with the number that it names
+  pub second_table : (setting_at scene_with_tables 1 0 (Scalar ∷ [])).table ≡ from_ten
+  -- lookups and series of each kind
+  pub found_boolean : looked_up_once op.LookupBoolean Boolean (pos 1) ≡ truth true ∷ Mv ∷ []
+  pub found_nominal : looked_up_once op.LookupNominal Nominal (pos 5) ≡ Val (pos 5) ∷ Mv ∷ []
+  pub found_ordinal : looked_up_once op.LookupOrdinal Ordinal (pos 6) ≡ Val (pos 6) ∷ Mv ∷ []
+  pub found_scalar : looked_up_once op.LookupScalar Scalar (pos 1500000) ≡ Val (pos 1500000) ∷ Mv ∷ []
+  pub found_directional : looked_up_once op.LookupDirectional Directional (pos 90000000) ≡ Val (pos 90000000) ∷ Mv ∷ []
+  pub read_boolean : read_once op.TimeInputBoolean Boolean (truth true) ≡ truth true ∷ Mv ∷ []
+  pub read_nominal : read_once op.TimeInputNominal Nominal (Val (pos 5)) ≡ Val (pos 5) ∷ Mv ∷ []
+  pub read_ordinal : read_once op.TimeInputOrdinal Ordinal (Val (pos 6)) ≡ Val (pos 6) ∷ Mv ∷ []
+  pub read_scalar : read_once op.TimeInputScalar Scalar (whole_scalar 2) ≡ whole_scalar 2 ∷ Mv ∷ []
+  pub read_directional : read_once op.TimeInputDirectional Directional (Val (pos 90000000)) ≡ Val (pos 90000000) ∷ Mv ∷ []
+  -- the files of stacks: prefixes of one, four and eight bytes
+  pub first_file : stack_file (codes "rain") 1 ≡ codes "rain0000.001"
+  pub later_file : stack_file (codes "q") 98765 ≡ codes "q0000098.765"
+  pub short_file : stack_file (codes "abcdefgh") 12 ≡ codes "abcdefgh.012"
 
 -- ---- kinds
 

@@ -82,11 +82,18 @@ StayInRange =
     AreMapsOfKinds setting operands → place < setting_places setting →
     IsOk (outcome_of o setting operands place)
 
--- where one of its operands is missing, a result is missing, except where the policy on missing values says otherwise
+-- The operand at this place counts: the operation takes so many at least, or it is a key of the table that it looks up in, of
+-- which there are four at most.
+abbrev pub CountsAsOperand : Op → Setting → ℕ → Type 0
+CountsAsOperand o setting i =
+    (i < (map_row (row_of o)).least)
+    ⊎ ((file_role o setting.table.keys ≡ Some (Table setting.table.keys)) × (i < setting.table.keys) × (i < 4))
+
+-- where an operand is missing of which the policy on missing values says so, the result is missing
 abbrev pub SpreadMissing : Type 0
 SpreadMissing =
     (o : Op) (setting : Setting) (operands : List CellAt) (place i : ℕ) →
-    spreads_missing o ≡ true → i < (map_row (row_of o)).least → operand_at operands i place ≡ Mv →
+    spreads_missing o i ≡ true → CountsAsOperand o setting i → operand_at operands i place ≡ Mv →
     outcome_of o setting operands place ≡ Ok Mv
 
 -- ---- whole numbers

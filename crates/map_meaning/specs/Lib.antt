@@ -16,4 +16,6 @@ pub mod Spans
 pub mod Limits
 pub mod Examples
 pub mod PlaceExamples
+pub mod TableExamples
+pub mod OverExamples
 pub mod Laws

@@ -1,5 +1,5 @@
 -- Missing values: what an operation makes of an operand that is missing.
-use Rattle.std.specs.Prelude.{ℤ, Bool, true, false, Result, Ok}
+use Rattle.std.specs.Prelude.{ℕ, ℤ, ◌==◌, Bool, true, false, Result, Ok}
 use Rattle.cell_values.specs.declared.cell.Cell.{Cell}
 use Rattle.cell_values.specs.declared.cell.Cell.TheVariants.{Mv, Val}
 use Rattle.cell_values.specs.declared.cell.Over.{Over}
@@ -14,28 +14,29 @@ abbrev pub at_cell : (ℤ → Result Cell Over) → Cell → Result Cell Over
 at_cell of_number Mv = Ok Mv
 at_cell of_number (Val a) = of_number a
 
--- A missing operand gives a missing value, except where an operation looks at what is missing: the branch that is not
--- taken does not matter, a cover passes over what is missing, and a test on what is defined never is. An operation over a
--- window, an area or the map passes over the cells that are missing, the place's own too, and one that looks a step up or
--- down stream does not look at the place's own value.
-abbrev pub spreads_missing : Op → Bool
-spreads_missing IfElse = false
-spreads_missing Cover = false
-spreads_missing Defined = false
-spreads_missing WindowTotal = false
-spreads_missing WindowAverage = false
-spreads_missing WindowMinimum = false
-spreads_missing WindowMaximum = false
-spreads_missing WindowDiversity = false
-spreads_missing WindowMajority = false
-spreads_missing AreaTotal = false
-spreads_missing AreaAverage = false
-spreads_missing AreaMinimum = false
-spreads_missing AreaMaximum = false
-spreads_missing AreaDiversity = false
-spreads_missing AreaMajority = false
-spreads_missing MapTotal = false
-spreads_missing MapMinimum = false
-spreads_missing MapMaximum = false
-spreads_missing (Near o) = false
-spreads_missing _ = true
+-- The operands, by their places from 0 on, of which one that is missing gives a missing value. An operation that looks at what
+-- is missing has others: `if` with two branches looks at the one that is taken, a cover passes over what is missing, and a test
+-- on what is defined never is. One over a window, an area or the map passes over the values that are missing, the place's own
+-- too, and one that looks a step up or down stream over the place's own value; but a missing class, and a missing direction,
+-- give a missing value.
+abbrev pub spreads_missing : Op → ℕ → Bool
+spreads_missing IfElse i = i == 0
+spreads_missing Cover i = false
+spreads_missing Defined i = false
+spreads_missing WindowTotal i = false
+spreads_missing WindowAverage i = false
+spreads_missing WindowMinimum i = false
+spreads_missing WindowMaximum i = false
+spreads_missing WindowDiversity i = false
+spreads_missing WindowMajority i = false
+spreads_missing AreaTotal i = i == 1
+spreads_missing AreaAverage i = i == 1
+spreads_missing AreaMinimum i = i == 1
+spreads_missing AreaMaximum i = i == 1
+spreads_missing AreaDiversity i = i == 1
+spreads_missing AreaMajority i = i == 1
+spreads_missing MapTotal i = false
+spreads_missing MapMinimum i = false
+spreads_missing MapMaximum i = false
+spreads_missing (Near o) i = i == 0
+spreads_missing _ i = true

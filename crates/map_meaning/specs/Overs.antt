@@ -5,6 +5,7 @@ use Rattle.map_meaning.specs.declared.known.OverAt.{OverAt}
 use Rattle.map_meaning.specs.declared.op.Op.{Op}
 use Rattle.map_meaning.specs.declared.op.Op.TheVariants.{Add, Sub, Mul, Div, IntDiv, ToNominal, ToOrdinal, WindowTotal}
 use Rattle.map_meaning.specs.declared.op.Op.TheVariants.{AreaTotal, MapTotal, Near, Flow}
+use Rattle.drain_meaning.specs.declared.op.FlowOp.TheVariants.{Accuflux, ThresholdFlux}
 use Rattle.drain_meaning.specs.declared.op.NearOp.TheVariants.{Upstream}
 use Rattle.map_meaning.specs.Maps.{WholeMap}
 use Rattle.map_meaning.specs.Scenes.{Scene}
@@ -36,5 +37,6 @@ may_be_over WindowTotal = true
 may_be_over AreaTotal = true
 may_be_over MapTotal = true
 may_be_over (Near Upstream) = true
-may_be_over (Flow o) = true
+may_be_over (Flow Accuflux) = true
+may_be_over (Flow ThresholdFlux) = true
 may_be_over _ = false

@@ -21,7 +21,7 @@ use Rattle.map_meaning.specs.declared.program.Program.{Program}
 use Rattle.map_meaning.specs.declared.program.Role.TheVariants.{Grid}
 use Rattle.map_meaning.specs.declared.tree.Statement.{Statement}
 use Rattle.map_meaning.specs.declared.tree.Tree.TheVariants as tree
-use Rattle.map_meaning.specs.Evaluation.{nothing_done, staged_values}
+use Rattle.map_meaning.specs.Evaluation.{Done, drain_codes, nothing_done, staged_values}
 use Rattle.map_meaning.specs.Examples.{map_named, unassigned, whole_scalar}
 use Rattle.map_meaning.specs.Rules.{Setting, no_series, no_table, outcome_of}
 use Rattle.map_meaning.specs.Scenes.{Scene}
@@ -39,6 +39,15 @@ told_in_a_row kinds window cols =
 abbrev pub row_of_cells : Op → List Kind → ℕ → List (List Cell) → ℕ → List Cell
 row_of_cells o kinds window maps cols = (part_of (outcome_of o (told_in_a_row kinds window cols) (map cell_at maps)) cols).cells
 
+-- what an operation on these kinds is told over maps of two rows of three columns
+abbrev pub told_in_two_rows : List Kind → ℕ → Setting
+told_in_two_rows kinds window =
+    record { kinds = kinds; rows = 2; cols = 3; step = 0; table = no_table; series = no_series; window = window }
+
+-- the cells that an operation on these kinds gives over such maps
+abbrev pub square_of_cells : Op → List Kind → ℕ → List (List Cell) → List Cell
+square_of_cells o kinds window maps = (part_of (outcome_of o (told_in_two_rows kinds window) (map cell_at maps)) 6).cells
+
 -- the scalars 1, 2, 3 and 4
 abbrev pub one_to_four : List Cell
 one_to_four = whole_scalars (1 ∷ 2 ∷ 3 ∷ 4 ∷ [])
@@ -55,10 +64,34 @@ last_of_three = Mv ∷ Mv ∷ whole_scalar 3 ∷ []
 abbrev pub none_of_three : List Cell
 none_of_three = Mv ∷ Mv ∷ Mv ∷ []
 
+-- 5, 2, missing and 4
+abbrev pub with_a_gap : List Cell
+with_a_gap = whole_scalar 5 ∷ whole_scalar 2 ∷ Mv ∷ whole_scalar 4 ∷ []
+
+-- 1, 5, 4 and missing
+abbrev pub last_missing : List Cell
+last_missing = whole_scalar 1 ∷ whole_scalar 5 ∷ whole_scalar 4 ∷ Mv ∷ []
+
+-- the classes 1, 2, 1 and 2
+abbrev pub two_in_turn : List Cell
+two_in_turn = cells_of_numbers (1 ∷ 2 ∷ 1 ∷ 2 ∷ [])
+
 -- what operations over windows, areas and whole maps give
 pub record RegionExamples : Type 0 where
   -- the windows of three cells in a row, as far as the row goes
   pub window_total : row_of_cells op.WindowTotal (Scalar ∷ []) 3 (one_to_four ∷ []) 4 ≡ whole_scalars (3 ∷ 6 ∷ 9 ∷ 7 ∷ [])
+  -- over 1 2 3 and, below them, 4 5 6
+  pub window_rows : square_of_cells op.WindowTotal (Scalar ∷ []) 3 (whole_scalars (1 ∷ 2 ∷ 3 ∷ 4 ∷ 5 ∷ 6 ∷ []) ∷ [])
+      ≡ whole_scalars (12 ∷ 21 ∷ 16 ∷ 12 ∷ 21 ∷ 16 ∷ [])
+  -- values that are missing do not count, nor does it matter whether the one in the middle is
+  pub window_average : row_of_cells op.WindowAverage (Scalar ∷ []) 3 (with_a_gap ∷ []) 4
+      ≡ Val (pos 3500000) ∷ Val (pos 3500000) ∷ whole_scalar 3 ∷ whole_scalar 4 ∷ []
+  pub window_minimum : row_of_cells op.WindowMinimum (Scalar ∷ []) 3 (with_a_gap ∷ []) 4 ≡ whole_scalars (2 ∷ 2 ∷ 2 ∷ 4 ∷ [])
+  pub window_maximum : row_of_cells op.WindowMaximum (Scalar ∷ []) 3 (with_a_gap ∷ []) 4 ≡ whole_scalars (5 ∷ 5 ∷ 4 ∷ 4 ∷ [])
+  pub window_diversity : row_of_cells op.WindowDiversity (Nominal ∷ []) 3 (cells_of_numbers (1 ∷ 1 ∷ 2 ∷ 3 ∷ []) ∷ []) 4
+      ≡ whole_scalars (1 ∷ 2 ∷ 3 ∷ 2 ∷ [])
+  -- a window of one cell, and one without a value
+  pub window_alone : row_of_cells op.WindowTotal (Scalar ∷ []) 1 (with_a_gap ∷ []) 4 ≡ with_a_gap
   -- of classes that are as frequent the least counts
   pub window_majority : row_of_cells op.WindowMajority (Nominal ∷ []) 3 (cells_of_numbers (2 ∷ 1 ∷ 2 ∷ 1 ∷ []) ∷ []) 4
       ≡ cells_of_numbers (1 ∷ 2 ∷ 1 ∷ 1 ∷ [])
@@ -66,11 +99,25 @@ pub record RegionExamples : Type 0 where
   pub area_average : row_of_cells op.AreaAverage (Scalar ∷ Nominal ∷ []) 0
       (whole_scalars (1 ∷ 5 ∷ 4 ∷ []) ∷ cells_of_numbers (1 ∷ 2 ∷ 1 ∷ []) ∷ []) 3
       ≡ Val (pos 2500000) ∷ whole_scalar 5 ∷ Val (pos 2500000) ∷ []
+  -- a cell without a value has what its class has
+  pub area_minimum : row_of_cells op.AreaMinimum (Scalar ∷ Nominal ∷ []) 0 (last_missing ∷ two_in_turn ∷ []) 4
+      ≡ whole_scalars (1 ∷ 5 ∷ 1 ∷ 5 ∷ [])
+  pub area_maximum : row_of_cells op.AreaMaximum (Scalar ∷ Nominal ∷ []) 0 (last_missing ∷ two_in_turn ∷ []) 4
+      ≡ whole_scalars (4 ∷ 5 ∷ 4 ∷ 5 ∷ [])
+  pub area_sums : row_of_cells op.AreaTotal (Scalar ∷ Nominal ∷ []) 0 (last_missing ∷ two_in_turn ∷ []) 4
+      ≡ whole_scalars (5 ∷ 5 ∷ 5 ∷ 5 ∷ [])
+  pub area_diversity : row_of_cells op.AreaDiversity (Nominal ∷ Nominal ∷ []) 0
+      (cells_of_numbers (7 ∷ 7 ∷ 8 ∷ 7 ∷ []) ∷ cells_of_numbers (1 ∷ 2 ∷ 2 ∷ 2 ∷ []) ∷ []) 4 ≡ whole_scalars (1 ∷ 2 ∷ 2 ∷ 2 ∷ [])
+  pub area_majority : row_of_cells op.AreaMajority (Nominal ∷ Nominal ∷ []) 0
+      (cells_of_numbers (7 ∷ 9 ∷ 8 ∷ 9 ∷ 8 ∷ []) ∷ cells_of_numbers (1 ∷ 2 ∷ 2 ∷ 2 ∷ 2 ∷ []) ∷ []) 5
+      ≡ cells_of_numbers (7 ∷ 8 ∷ 8 ∷ 8 ∷ 8 ∷ [])
   -- an area without a value has no total, and the cell without a class is in no area
   pub area_total : row_of_cells op.AreaTotal (Scalar ∷ Nominal ∷ []) 0 (last_of_three ∷ two_of_three ∷ []) 3 ≡ none_of_three
   pub area_size : row_of_cells op.AreaArea (Nominal ∷ []) 0 (two_of_three ∷ []) 3 ≡ whole_scalar 2 ∷ whole_scalar 2 ∷ Mv ∷ []
   -- a total of the map stands at each place
   pub map_total : row_of_cells op.MapTotal (Scalar ∷ []) 0 (last_of_three ∷ []) 3 ≡ whole_scalars (3 ∷ 3 ∷ 3 ∷ [])
+  pub map_minimum : row_of_cells op.MapMinimum (Scalar ∷ []) 0 (with_a_gap ∷ []) 4 ≡ whole_scalars (2 ∷ 2 ∷ 2 ∷ 2 ∷ [])
+  pub map_maximum : row_of_cells op.MapMaximum (Scalar ∷ []) 0 (with_a_gap ∷ []) 4 ≡ whole_scalars (5 ∷ 5 ∷ 5 ∷ 5 ∷ [])
 
 -- ---- drain directions
 
@@ -204,6 +251,10 @@ statements_over_mask =
     }
     ∷ []
 
+-- what is done where both drain maps are computed
+abbrev pub done_behind_mask : Done
+done_behind_mask = record { initial = all_but_third ∷ []; dynamic = []; last = []; drains = codes_eastward ∷ codes_masked ∷ [] }
+
 -- what a mask between two stages gives
 pub record MaskExamples : Type 0 where
   -- the mask ends the first of two stages
@@ -219,6 +270,8 @@ pub record MaskExamples : Type 0 where
   -- the second stage alone, from what is known before it
   pub second : stage_of over_mask (span.Initial 1 2) known_behind_mask
       ≡ record { maps = record { step = 0; operation = 1; cells = flows_masked } ∷ []; over = None }
+  -- a drain map under another name
+  pub same : drain_codes row_scene done_behind_mask (drain.Same 1) ≡ codes_masked
   -- the same by the statements
   pub drains : map_named (codes "K") (section_value row_scene 1 unassigned statements_over_mask) ≡ Ok codes_masked
   pub flows : map_named (codes "Q") (section_value row_scene 1 unassigned statements_over_mask) ≡ Ok flows_masked

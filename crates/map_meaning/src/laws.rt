@@ -1,13 +1,17 @@
 //! What holds of every model, in the subject's words.
 
 ghost use Rattle.map_meaning.specs.Examples.{CellExamples, FileExamples, KindExamples, ProgramExamples, SectionExamples, SpanExamples, StepExamples};
+ghost use Rattle.map_meaning.specs.OverExamples.{OverExamples};
 ghost use Rattle.map_meaning.specs.PlaceExamples.{AlongExamples, MaskExamples, RegionExamples};
+ghost use Rattle.map_meaning.specs.TableExamples.{TableExamples};
 ghost use Rattle.map_meaning.specs.Laws.{AreNearWhole, ChangeTheirTargets, GiveWholeMaps, HaveOneRow, LieInTheirKind, OperationsGoOn, SectionsGoOn, SpreadMissing, StayInRange, TellTheLeastOver};
 
 /// Worked examples come out as they were worked out by hand.
 pub fn worked_examples_come_out()
     ensures cells { CellExamples }
     ensures kinds { KindExamples }
+    ensures rows { TableExamples }
+    ensures overs { OverExamples }
     ensures programs { ProgramExamples }
     ensures sections { SectionExamples }
     ensures files { FileExamples }
@@ -28,14 +32,15 @@ pub fn results_lie_in_their_kind()
     ensures { LieInTheirKind }
 {}
 
-/// Sums, differences, products, quotients, totals, conversions to classes and what gathers along drain directions can
-/// leave the range of their kind; no other operation does where its operands are maps of their kinds.
+/// Sums, differences, products, quotients, totals, conversions to classes, and what gathers or flows out along drain
+/// directions can leave the range of their kind; no other operation does where its operands are maps of their kinds.
 pub fn few_operations_leave_their_range()
     ensures { StayInRange }
 {}
 
-/// A missing operand gives a missing value, except in the choices and tests that look at what is missing, and in
-/// operations over windows, areas and whole maps and one step along drain directions, which pass over it.
+/// A missing operand gives a missing value, each key of a lookup too, except in the choices and tests that look at what is
+/// missing, and but for values that operations over windows, areas, whole maps and one step along drain directions pass
+/// over: a missing class or direction gives a missing value there too.
 pub fn missing_operands_spread()
     ensures { SpreadMissing }
 {}

@@ -15,7 +15,7 @@ use Rattle.cell_values.specs.Arithmetic.{at_cells}
 use Rattle.cell_values.specs.Conversion.{conversion_of, has_direction, has_truth}
 use Rattle.cell_values.specs.Rounding.{IsNearest, nearest}
 use Rattle.cell_values.proofs.Nearest.{nearest-IsNearest}
-use Rattle.cell_values.proofs.Readings.{test-from_value}
+use Rattle.cell_values.proofs.Readings.{test-from_value, value-from_test}
 use Rattle.time_series.specs.Values.{cell_in_row, cells_at}
 use Rattle.tile_map.specs.Cuts.{cell_at}
 use Rattle.region_meaning.specs.declared.area.AreaOp.TheVariants as area
@@ -27,7 +27,9 @@ use Rattle.drain_meaning.specs.declared.op.NearOp.TheVariants as near
 use Rattle.drain_meaning.specs.Drains.{next_at}
 use Rattle.drain_meaning.specs.Flows.{flow_outcome, material}
 use Rattle.drain_meaning.specs.Near.{drained_place, near_outcome}
-use Rattle.drain_meaning.specs.Transports.{where_directed}
+use Rattle.drain_meaning.specs.Transports.{transport_outcome, where_directed}
+use Rattle.drain_meaning.specs.Equations.{transport_of}
+use Rattle.drain_meaning.specs.declared.op.FlowOp.TheVariants as flows
 use Rattle.map_meaning.specs.declared.op.Op.{Op}
 use Rattle.map_meaning.specs.declared.op.Op.TheVariants as op
 use Rattle.map_meaning.specs.Laws.{AreMapsOfKinds}
@@ -36,10 +38,11 @@ use Rattle.map_meaning.specs.Maps.{CellAt}
 use Rattle.map_meaning.specs.Missing.{at_cell}
 use Rattle.map_meaning.specs.Overs.{may_be_over}
 use Rattle.map_meaning.specs.Rules.{Setting, alike, drain_by, kind_at, operand_at, outcome_of, reach_of, rule_of, setting_places, whole_by, zone_places}
-use Rattle.map_meaning.specs.Table.{HasKinds, is_kind, map_row, row_of}
+use Rattle.map_meaning.specs.Table.{HasKinds, allows, ask_at, is_kind, map_row, row_of}
 use Rattle.map_meaning.specs.Whole.{whole_above, whole_below, whole_nearest}
 use Rattle.map_meaning.proofs.Callers.{same_kind}
-use Rattle.map_meaning.proofs.InKinds.{at_place, whole_in, zones_few, zones_in}
+use Rattle.map_meaning.proofs.FlowsInRange.{catchment_stays, state_stays}
+use Rattle.map_meaning.proofs.InKinds.{at_place, from_least, no_row, whole_in, zones_few, zones_in}
 use Rattle.map_meaning.proofs.NearWhole.{above, below}
 use Rattle.map_meaning.proofs.laws.few_operations_leave_their_range.Goals as goal
 
@@ -175,6 +178,22 @@ downstream_ok setting codes values place all =
     let n = next_at (drain_by setting codes) place in
     directed_ok n (cell_at (whole_by setting values) (drained_place place n)) (at_place Scalar (whole_by setting values) (drained_place place n) all)
 
+-- ---- transports
+
+-- each cell of a map of a kind is of it, and what is past its end is missing
+each_cell : (kind : Kind) (m : List Cell) → All (IsCell kind) m → (place : ℕ) → IsCell kind (cell_at m place)
+each_cell kind m all place = at_place kind m place all
+
+-- 0 is a point
+zero_in : (common kind : Kind) → allows common (ask_at (map_row (row_of (op.Flow flows.Catchment))) 1) kind ≡ true → IsValue kind (pos 0)
+unfolding row_of
+zero_in common Boolean h = value-from_test Boolean (pos 0) refl
+zero_in common Nominal h = value-from_test Nominal (pos 0) refl
+zero_in common Ordinal h = value-from_test Ordinal (pos 0) refl
+zero_in common Scalar h = absurd (cc)
+zero_in common Directional h = absurd (cc)
+zero_in common Ldd h = absurd (cc)
+
 -- ---- the operations
 
 -- one operand is there
@@ -241,7 +260,30 @@ stays op.WindowTotal setting kind operands place may h maps below = absurd (cc)
 stays op.AreaTotal setting kind operands place may h maps below = absurd (cc)
 stays op.MapTotal setting kind operands place may h maps below = absurd (cc)
 stays (op.Near near.Upstream) setting kind operands place may h maps below = absurd (cc)
-stays (op.Flow o) setting kind operands place may h maps below = absurd (cc)
+stays (op.Flow flows.Accuflux) setting kind operands place may h maps below = absurd (cc)
+stays (op.Flow flows.ThresholdFlux) setting kind operands place may h maps below = absurd (cc)
+stays (op.Flow flows.ThresholdState) setting kind operands place may h maps below =
+    let three : 3 ≤ length setting.kinds = from_least (length setting.kinds) 3 3 h.count in
+    let first : Scalar ≡ kind_at setting.kinds 1 = same_kind Scalar (kind_at setting.kinds 1) (h.each 1 (omega (arith, three))) in
+    let second : Scalar ≡ kind_at setting.kinds 2 = same_kind Scalar (kind_at setting.kinds 2) (h.each 2 (omega (arith, three))) in
+    subst (λ k. IsOk (transport_outcome (transport_of flows.ThresholdState) k (drain_by setting (operand_at operands 0)) (cell_at (whole_by setting (operand_at operands 1))) (cell_at (whole_by setting (operand_at operands 2))) place)) first
+    (state_stays (drain_by setting (operand_at operands 0)) (cell_at (whole_by setting (operand_at operands 1))) (cell_at (whole_by setting (operand_at operands 2)))
+    (each_cell Scalar (whole_by setting (operand_at operands 1)) (subst (λ k. All (IsCell k) (whole_by setting (operand_at operands 1))) (sym first) (whole_in setting operands 1 (omega (arith, three)) maps)))
+    (each_cell Scalar (whole_by setting (operand_at operands 2)) (subst (λ k. All (IsCell k) (whole_by setting (operand_at operands 2))) (sym second) (whole_in setting operands 2 (omega (arith, three)) maps)))
+    place)
+stays (op.Flow flows.Catchment) setting kind operands place may h maps below =
+    let there = second_there (length setting.kinds) 2 h.count in
+    catchment_stays (kind_at setting.kinds 1) (zero_in (kind_at setting.kinds 0) (kind_at setting.kinds 1) (h.each 1 there)) (drain_by setting (operand_at operands 0)) (cell_at (whole_by setting (operand_at operands 1))) (cell_at (whole_by setting (operand_at operands 2)))
+    (each_cell (kind_at setting.kinds 1) (whole_by setting (operand_at operands 1)) (whole_in setting operands 1 there maps)) place
+stays (op.Flow flows.CapacityFlux) setting kind operands place may h maps below = absurd (no_row (length setting.kinds) h.count)
+stays (op.Flow flows.CapacityState) setting kind operands place may h maps below = absurd (no_row (length setting.kinds) h.count)
+stays (op.Flow flows.TriggerFlux) setting kind operands place may h maps below = absurd (no_row (length setting.kinds) h.count)
+stays (op.Flow flows.TriggerState) setting kind operands place may h maps below = absurd (no_row (length setting.kinds) h.count)
+stays (op.Flow flows.FractionFlux) setting kind operands place may h maps below = absurd (no_row (length setting.kinds) h.count)
+stays (op.Flow flows.FractionState) setting kind operands place may h maps below = absurd (no_row (length setting.kinds) h.count)
+stays (op.Flow flows.Subcatchment) setting kind operands place may h maps below = absurd (no_row (length setting.kinds) h.count)
+stays (op.Flow flows.PathOf) setting kind operands place may h maps below = absurd (no_row (length setting.kinds) h.count)
+stays (op.Flow flows.StreamOrder) setting kind operands place may h maps below = absurd (no_row (length setting.kinds) h.count)
 stays op.WindowAverage setting kind operands place may h maps below = let there = one_there (length setting.kinds) 1 h.count in window_outcome-average_ok setting.rows setting.cols (reach_of setting.window) (whole_by setting (operand_at operands 0)) place (subst (λ k. All (IsCell k) (whole_by setting (operand_at operands 0))) (sym (same_kind Scalar (kind_at setting.kinds 0) (h.each 0 there))) (whole_in setting operands 0 there maps))
 stays op.WindowDiversity setting kind operands place may h maps below = window_outcome-diversity_ok setting.rows setting.cols (reach_of setting.window) (whole_by setting (operand_at operands 0)) place maps.few
 stays op.WindowMinimum setting kind operands place may h maps below = window_outcome-of_kind_ok window.Minimum setting.rows setting.cols (reach_of setting.window) (whole_by setting (operand_at operands 0)) place refl

@@ -1,5 +1,5 @@
-use Rattle.std.proofs.Common.{◌≡◌, ℕ, zero, suc, ◌<◌, ◌≤◌, map, length, Bool, true, false, List, refl, ap, ◌∙◌, cond, Ok, arith, ◌⊎◌, inl, inr}
-use Rattle.std.specs.Prelude.{ℤ, pos, ◌+ℤ◌, ◌-ℤ◌, ◌*ℤ◌, neg_ℤ, unsigned_abs, int_le, int_lt, not, ◌&&◌, ◌||◌}
+use Rattle.std.proofs.Common.{◌≡◌, ℕ, zero, suc, ◌<◌, ◌≤◌, map, length, Bool, true, false, List, refl, subst, ap, ◌∙◌, cond, Ok, arith, ◌⊎◌, inl, inr}
+use Rattle.std.specs.Prelude.{Option, Some, None, slice_index_or, nat_lt, ◌==◌, ℤ, pos, ◌+ℤ◌, ◌-ℤ◌, ◌*ℤ◌, neg_ℤ, unsigned_abs, int_le, int_lt, not, ◌&&◌, ◌||◌}
 use Rattle.std.specs.Ordering.{int_eq}
 use Rattle.cell_values.specs.declared.kind.Kind.{Kind}
 use Rattle.cell_values.specs.declared.kind.Kind.TheVariants.{Boolean, Nominal, Ordinal, Scalar, Directional}
@@ -22,6 +22,8 @@ use Rattle.drain_meaning.specs.declared.next.Next.{Next}
 use Rattle.drain_meaning.specs.declared.next.Next.TheVariants as next
 use Rattle.drain_meaning.specs.declared.op.FlowOp.{FlowOp}
 use Rattle.drain_meaning.specs.declared.op.FlowOp.TheVariants as flows
+use Rattle.drain_meaning.specs.declared.op.NearOp.{NearOp}
+use Rattle.drain_meaning.specs.Near.{near_flow, near_outcome}
 use Rattle.drain_meaning.specs.Drains.{DrainMap, next_at}
 use Rattle.drain_meaning.specs.Equations.{above_threshold, equation_of, gathered_material, transport_of}
 use Rattle.drain_meaning.specs.Flows.{at_flows, flow_outcome, material, total_flow}
@@ -29,10 +31,14 @@ use Rattle.drain_meaning.specs.Transports.{Transport, end_after, end_of, feeders
 use Rattle.drain_meaning.proofs.Callers.{next_at-missing}
 use Rattle.map_meaning.specs.declared.op.Op.{Op}
 use Rattle.map_meaning.specs.declared.op.Op.TheVariants as op
-use Rattle.map_meaning.specs.Local.{lookup_of, timeinput_of, if_then_of, is_either, is_one, truth}
+use Rattle.lookup_table.specs.Form.{TableValue}
+use Rattle.map_meaning.specs.declared.program.Role.TheVariants.{Table}
+use Rattle.map_meaning.specs.Laws.{CountsAsOperand}
+use Rattle.map_meaning.specs.Programs.{file_role}
+use Rattle.map_meaning.specs.Local.{further_key, if_else_of, key_number, value_at_keys, lookup_of, timeinput_of, if_then_of, is_either, is_one, truth}
 use Rattle.map_meaning.specs.Maps.{CellAt}
 use Rattle.map_meaning.specs.Missing.{at_cell, spreads_missing}
-use Rattle.map_meaning.specs.Rules.{Setting, alike, drain_by, kind_at, operand_at, outcome_of, rule_of, setting_places, whole_by, zone_places}
+use Rattle.map_meaning.specs.Rules.{Setting, alike, by_rule, looking_up, drain_by, kind_at, operand_at, outcome_of, rule_of, setting_places, whole_by, zone_places}
 use Rattle.map_meaning.specs.Table.{map_row, row_of}
 use Rattle.map_meaning.specs.Whole.{whole_above, whole_below, whole_nearest}
 use Rattle.map_meaning.proofs.laws.missing_operands_spread.Goals as goal
@@ -186,10 +192,68 @@ module _ (o : FlowOp) (setting : Setting) (operands : List CellAt) (place : ℕ)
   of_threshold equation (suc (suc zero)) below gone = no_threshold (λ inflows a b h. equation inflows a b (inr h)) gone
   of_threshold equation (suc (suc (suc i))) below gone = absurd (omega arith)
 
+-- ---- one step up or down stream
+
+-- without a direction there is no value
+near_gone : (o : NearOp) (setting : Setting) (codes values : CellAt) (place : ℕ) → codes place ≡ Mv → near_outcome o (drain_by setting codes) values place ≡ Ok Mv
+unfolding near_outcome
+near_gone o setting codes values place gone =
+    ap (λ n. flow_outcome Scalar (where_directed n (near_flow o (drain_by setting codes) values place))) (next_at-missing (drain_by setting codes) place (whole_missing setting codes place gone))
+
+-- ---- tables
+
+-- a key that is missing has no number
+no_key : (kind : Kind) (x : Cell) → x ≡ Mv → key_number kind x ≡ None
+no_key kind x gone = ap (key_number kind) gone
+
+-- a further key of the table that is missing
+no_further_key : (table : TableValue) (kinds : List Kind) (i : ℕ) (x : Cell) → i < table.keys → x ≡ Mv → further_key table kinds i x ≡ None
+no_further_key table kinds i x below gone =
+    let counts : nat_lt i table.keys ≡ true = grind arith in
+    ap (λ b. cond b (key_number (slice_index_or kinds i Scalar) x) (Some (pos 0))) counts ∙ no_key (slice_index_or kinds i Scalar) x gone
+
+-- a table has no value where one of its keys has no number
+no_second : (table : TableValue) (a c d : Option ℤ) → value_at_keys table a None c d ≡ Mv
+no_second table None c d = refl
+no_second table (Some a) c d = refl
+
+no_third : (table : TableValue) (a b d : Option ℤ) → value_at_keys table a b None d ≡ Mv
+no_third table None b d = refl
+no_third table (Some a) None d = refl
+no_third table (Some a) (Some b) d = refl
+
+no_fourth : (table : TableValue) (a b c : Option ℤ) → value_at_keys table a b c None ≡ Mv
+no_fourth table None b c = refl
+no_fourth table (Some a) None c = refl
+no_fourth table (Some a) (Some b) None = refl
+no_fourth table (Some a) (Some b) (Some c) = refl
+
+-- where a key is missing, there is nothing to find
+module _ (setting : Setting) (operands : List CellAt) (place : ℕ) where
+  abbrev key : ℕ → Option ℤ
+  key i = further_key setting.table setting.kinds i (operand_at operands i place)
+
+  abbrev first_key : Option ℤ
+  first_key = key_number (slice_index_or setting.kinds 0 Scalar) (operand_at operands 0 place)
+
+  looked_up_gone : (i : ℕ) → i < setting.table.keys → i < 4 → operand_at operands i place ≡ Mv → by_rule looking_up setting operands place ≡ Ok Mv
+  looked_up_gone zero below few gone = ap (λ k. Ok (value_at_keys setting.table k (key 1) (key 2) (key 3))) (no_key (slice_index_or setting.kinds 0 Scalar) (operand_at operands 0 place) gone)
+  looked_up_gone (suc zero) below few gone =
+      ap (λ k. Ok (value_at_keys setting.table first_key k (key 2) (key 3))) (no_further_key setting.table setting.kinds 1 (operand_at operands 1 place) below gone) ∙ ap Ok (no_second setting.table first_key (key 2) (key 3))
+  looked_up_gone (suc (suc zero)) below few gone =
+      ap (λ k. Ok (value_at_keys setting.table first_key (key 1) k (key 3))) (no_further_key setting.table setting.kinds 2 (operand_at operands 2 place) below gone) ∙ ap Ok (no_third setting.table first_key (key 1) (key 3))
+  looked_up_gone (suc (suc (suc zero))) below few gone =
+      ap (λ k. Ok (value_at_keys setting.table first_key (key 1) (key 2) k)) (no_further_key setting.table setting.kinds 3 (operand_at operands 3 place) below gone) ∙ ap Ok (no_fourth setting.table first_key (key 1) (key 2))
+  looked_up_gone (suc (suc (suc (suc i)))) below few gone = absurd (omega arith)
+
 -- ---- the operations
 
+-- the operand at a place is missing
+at_place : (operands : List CellAt) (place i k : ℕ) → (i == k) ≡ true → operand_at operands i place ≡ Mv → operand_at operands k place ≡ Mv
+at_place operands place i k same gone = let is : i ≡ k = grind arith in subst (λ n. operand_at operands n place ≡ Mv) is gone
+
 spreads : (o : Op) (setting : Setting) (operands : List CellAt) (place i : ℕ) →
-    spreads_missing o ≡ true → i < (map_row (row_of o)).least → operand_at operands i place ≡ Mv → outcome_of o setting operands place ≡ Ok Mv
+    spreads_missing o i ≡ true → i < (map_row (row_of o)).least → operand_at operands i place ≡ Mv → outcome_of o setting operands place ≡ Ok Mv
 unfolding row_of rule_of
 spreads op.CopyOf setting operands place i spread below gone = ap Ok (only_one (λ i. operand_at operands i place ≡ Mv) i below gone)
 spreads op.Add setting operands place i spread below gone = of_two (λ a b. cell_of_number Scalar (a +ℤ b)) (operand_at operands 0 place) (operand_at operands 1 place) (one_of_two (λ i. operand_at operands i place ≡ Mv) i below gone)
@@ -216,7 +280,7 @@ spreads op.Or setting operands place i spread below gone = of_two (λ a b. Ok (t
 spreads op.Xor setting operands place i spread below gone = of_two (λ a b. Ok (truth (is_either (is_one a) (is_one b)))) (operand_at operands 0 place) (operand_at operands 1 place) (one_of_two (λ i. operand_at operands i place ≡ Mv) i below gone)
 spreads op.Not setting operands place i spread below gone = of_one (λ a. Ok (truth (not (is_one a)))) (operand_at operands 0 place) (only_one (λ i. operand_at operands i place ≡ Mv) i below gone)
 spreads op.IfThen setting operands place i spread below gone = of_then (operand_at operands 0 place) (operand_at operands 1 place) (one_of_two (λ i. operand_at operands i place ≡ Mv) i below gone)
-spreads op.IfElse setting operands place i spread below gone = absurd (cc)
+spreads op.IfElse setting operands place i spread below gone = ap (λ c. if_else_of c (operand_at operands 1 place) (operand_at operands 2 place)) (at_place operands place i 0 spread gone)
 spreads op.Cover setting operands place i spread below gone = absurd (cc)
 spreads op.Defined setting operands place i spread below gone = absurd (cc)
 spreads op.ToBoolean setting operands place i spread below gone = ap (conversion_of (kind_at setting.kinds 0) Boolean) (only_one (λ i. operand_at operands i place ≡ Mv) i below gone)
@@ -240,16 +304,16 @@ spreads op.WindowMinimum setting operands place i spread below gone = absurd (cc
 spreads op.WindowMaximum setting operands place i spread below gone = absurd (cc)
 spreads op.WindowDiversity setting operands place i spread below gone = absurd (cc)
 spreads op.WindowMajority setting operands place i spread below gone = absurd (cc)
-spreads op.AreaTotal setting operands place i spread below gone = absurd (cc)
-spreads op.AreaAverage setting operands place i spread below gone = absurd (cc)
-spreads op.AreaMinimum setting operands place i spread below gone = absurd (cc)
-spreads op.AreaMaximum setting operands place i spread below gone = absurd (cc)
-spreads op.AreaDiversity setting operands place i spread below gone = absurd (cc)
-spreads op.AreaMajority setting operands place i spread below gone = absurd (cc)
+spreads op.AreaTotal setting operands place i spread below gone = ap (area_outcome area.Total (zone_places setting (operand_at operands 0) (operand_at operands 1))) (at_place operands place i 1 spread gone)
+spreads op.AreaAverage setting operands place i spread below gone = ap (area_outcome area.Average (zone_places setting (operand_at operands 0) (operand_at operands 1))) (at_place operands place i 1 spread gone)
+spreads op.AreaMinimum setting operands place i spread below gone = ap (area_outcome area.Minimum (zone_places setting (operand_at operands 0) (operand_at operands 1))) (at_place operands place i 1 spread gone)
+spreads op.AreaMaximum setting operands place i spread below gone = ap (area_outcome area.Maximum (zone_places setting (operand_at operands 0) (operand_at operands 1))) (at_place operands place i 1 spread gone)
+spreads op.AreaDiversity setting operands place i spread below gone = ap (area_outcome area.Diversity (zone_places setting (operand_at operands 0) (operand_at operands 1))) (at_place operands place i 1 spread gone)
+spreads op.AreaMajority setting operands place i spread below gone = ap (area_outcome area.Majority (zone_places setting (operand_at operands 0) (operand_at operands 1))) (at_place operands place i 1 spread gone)
 spreads op.MapTotal setting operands place i spread below gone = absurd (cc)
 spreads op.MapMinimum setting operands place i spread below gone = absurd (cc)
 spreads op.MapMaximum setting operands place i spread below gone = absurd (cc)
-spreads (op.Near o) setting operands place i spread below gone = absurd (cc)
+spreads (op.Near o) setting operands place i spread below gone = near_gone o setting (operand_at operands 0) (cell_at (whole_by setting (operand_at operands 1))) place (at_place operands place i 0 spread gone)
 spreads op.AreaArea setting operands place i spread below gone = ap (area_outcome area.Area (zone_places setting (alike 0) (operand_at operands 0))) (only_one (λ i. operand_at operands i place ≡ Mv) i below gone)
 spreads (op.Flow flows.Accuflux) setting operands place i spread below gone = of_material flows.Accuflux setting operands place accuflux_gone (one_of_two (λ i. operand_at operands i place ≡ Mv) i below gone)
 spreads (op.Flow flows.Catchment) setting operands place i spread below gone = of_material flows.Catchment setting operands place catchment_gone (one_of_two (λ i. operand_at operands i place ≡ Mv) i below gone)
@@ -265,5 +329,88 @@ spreads (op.Flow flows.Subcatchment) setting operands place i spread below gone 
 spreads (op.Flow flows.PathOf) setting operands place i spread below gone = no_code flows.PathOf setting operands place (only_one (λ i. operand_at operands i place ≡ Mv) i below gone)
 spreads (op.Flow flows.StreamOrder) setting operands place i spread below gone = no_code flows.StreamOrder setting operands place (only_one (λ i. operand_at operands i place ≡ Mv) i below gone)
 
+-- an operation that looks up in a table
+looks_up : (o : Op) (keys : ℕ) → file_role o keys ≡ Some (Table keys) → rule_of o ≡ looking_up
+unfolding rule_of
+looks_up op.CopyOf keys h = absurd (cc)
+looks_up op.Add keys h = absurd (cc)
+looks_up op.Sub keys h = absurd (cc)
+looks_up op.Mul keys h = absurd (cc)
+looks_up op.Div keys h = absurd (cc)
+looks_up op.IntDiv keys h = absurd (cc)
+looks_up op.IntMod keys h = absurd (cc)
+looks_up op.Neg keys h = absurd (cc)
+looks_up op.Abs keys h = absurd (cc)
+looks_up op.RoundDown keys h = absurd (cc)
+looks_up op.RoundUp keys h = absurd (cc)
+looks_up op.RoundOff keys h = absurd (cc)
+looks_up op.Min keys h = absurd (cc)
+looks_up op.Max keys h = absurd (cc)
+looks_up op.Equal keys h = absurd (cc)
+looks_up op.NotEqual keys h = absurd (cc)
+looks_up op.Less keys h = absurd (cc)
+looks_up op.LessEqual keys h = absurd (cc)
+looks_up op.Greater keys h = absurd (cc)
+looks_up op.GreaterEqual keys h = absurd (cc)
+looks_up op.And keys h = absurd (cc)
+looks_up op.Or keys h = absurd (cc)
+looks_up op.Xor keys h = absurd (cc)
+looks_up op.Not keys h = absurd (cc)
+looks_up op.IfThen keys h = absurd (cc)
+looks_up op.IfElse keys h = absurd (cc)
+looks_up op.Cover keys h = absurd (cc)
+looks_up op.Defined keys h = absurd (cc)
+looks_up op.ToBoolean keys h = absurd (cc)
+looks_up op.ToNominal keys h = absurd (cc)
+looks_up op.ToOrdinal keys h = absurd (cc)
+looks_up op.ToScalar keys h = absurd (cc)
+looks_up op.ToDirectional keys h = absurd (cc)
+looks_up op.LookupBoolean keys h = refl
+looks_up op.LookupNominal keys h = refl
+looks_up op.LookupOrdinal keys h = refl
+looks_up op.LookupScalar keys h = refl
+looks_up op.LookupDirectional keys h = refl
+looks_up op.TimeInputBoolean keys h = absurd (cc)
+looks_up op.TimeInputNominal keys h = absurd (cc)
+looks_up op.TimeInputOrdinal keys h = absurd (cc)
+looks_up op.TimeInputScalar keys h = absurd (cc)
+looks_up op.TimeInputDirectional keys h = absurd (cc)
+looks_up op.WindowTotal keys h = absurd (cc)
+looks_up op.WindowAverage keys h = absurd (cc)
+looks_up op.WindowMinimum keys h = absurd (cc)
+looks_up op.WindowMaximum keys h = absurd (cc)
+looks_up op.WindowDiversity keys h = absurd (cc)
+looks_up op.WindowMajority keys h = absurd (cc)
+looks_up op.AreaTotal keys h = absurd (cc)
+looks_up op.AreaAverage keys h = absurd (cc)
+looks_up op.AreaMinimum keys h = absurd (cc)
+looks_up op.AreaMaximum keys h = absurd (cc)
+looks_up op.AreaDiversity keys h = absurd (cc)
+looks_up op.AreaMajority keys h = absurd (cc)
+looks_up op.MapTotal keys h = absurd (cc)
+looks_up op.MapMinimum keys h = absurd (cc)
+looks_up op.MapMaximum keys h = absurd (cc)
+looks_up (op.Near o) keys h = absurd (cc)
+looks_up op.AreaArea keys h = absurd (cc)
+looks_up (op.Flow flows.Accuflux) keys h = absurd (cc)
+looks_up (op.Flow flows.Catchment) keys h = absurd (cc)
+looks_up (op.Flow flows.ThresholdFlux) keys h = absurd (cc)
+looks_up (op.Flow flows.ThresholdState) keys h = absurd (cc)
+looks_up (op.Flow flows.CapacityFlux) keys h = absurd (cc)
+looks_up (op.Flow flows.CapacityState) keys h = absurd (cc)
+looks_up (op.Flow flows.TriggerFlux) keys h = absurd (cc)
+looks_up (op.Flow flows.TriggerState) keys h = absurd (cc)
+looks_up (op.Flow flows.FractionFlux) keys h = absurd (cc)
+looks_up (op.Flow flows.FractionState) keys h = absurd (cc)
+looks_up (op.Flow flows.Subcatchment) keys h = absurd (cc)
+looks_up (op.Flow flows.PathOf) keys h = absurd (cc)
+looks_up (op.Flow flows.StreamOrder) keys h = absurd (cc)
+
+counted : (o : Op) (setting : Setting) (operands : List CellAt) (place i : ℕ) →
+    spreads_missing o i ≡ true → CountsAsOperand o setting i → operand_at operands i place ≡ Mv → outcome_of o setting operands place ≡ Ok Mv
+counted o setting operands place i spread (inl below) gone = spreads o setting operands place i spread below gone
+counted o setting operands place i spread (inr table) gone =
+    ap (λ rule. by_rule rule setting operands place) (looks_up o setting.table.keys table.0) ∙ looked_up_gone setting operands place i table.1 table.2 gone
+
 pub returns : goal.returns
-returns c = spreads
+returns c = counted

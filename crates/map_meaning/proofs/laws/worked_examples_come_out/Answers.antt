@@ -27,9 +27,9 @@ use Rattle.map_meaning.specs.Scenes.{Scene}
 use Rattle.map_meaning.specs.Sections.{After, after_statements, assigned}
 use Rattle.map_meaning.specs.Rules.{rule_of, kind_at}
 use Rattle.map_meaning.specs.Spans.{stage_of}
-use Rattle.map_meaning.specs.Table.{HasKinds, allows, ask_at, common_kind, map_row, row_of}
+use Rattle.map_meaning.specs.Table.{HasKinds, table_rows, allows, ask_at, common_kind, map_row, row_of}
 use Rattle.map_meaning.specs.Trees.{Environment, TreeMeaning, meaning_of, meaning_level}
-use Rattle.map_meaning.proofs.Callers.{after_statements-map, after_statements-over, meaning_of-Call, meaning_of-Input, meaning_of-Mask, meaning_of-Name, meaning_of-Number}
+use Rattle.map_meaning.proofs.Callers.{after_statements-map, after_statements-over, meaning_of-Call, meaning_of-CallWith, meaning_of-Input, meaning_of-Mask, meaning_of-Name, meaning_of-Number}
 use Rattle.map_meaning.proofs.laws.worked_examples_come_out.Goals as goal
 
 pub returns-clause-cells : goal.returns-clause-cells
@@ -159,9 +159,33 @@ no_directions h = let e : false ≡ true = h.each 0 (omega arith) in cc
 pub returns-clause-kinds : goal.returns-clause-kinds
 returns-clause-kinds c = record { chosen = chosen; least = least; apart = apart; unordered = unordered; two_keys = two_keys; no_key = no_key; no_ids = no_ids; one_map = one_map; no_area = no_area; of_points = of_points; no_directions = no_directions }
 
+pub returns-clause-rows : goal.returns-clause-rows
+unfolding row_of table_rows
+returns-clause-rows c = record { rows = refl; copy = refl; many = refl; lengths = refl }
+
+pub returns-clause-overs : goal.returns-clause-overs
+unfolding rule_of nearest nearest_size window_outcome window_of grown places_of place_in area_result next_at next_of near_outcome equation_of end_of feeders
+returns-clause-overs c = record {
+  sum = refl;
+  difference = refl;
+  product = refl;
+  quotient = refl;
+  whole_quotient = refl;
+  nominal = refl;
+  ordinal = refl;
+  window_total = refl;
+  area_total = refl;
+  area_back = refl;
+  map_total = refl;
+  map_back = refl;
+  upstream = refl;
+  accuflux = refl;
+  flux = refl;
+}
+
 pub returns-clause-programs : goal.returns-clause-programs
 unfolding stage_of operation_part rule_of
-returns-clause-programs c = record { within = refl; beyond = refl }
+returns-clause-programs c = record { within = refl; beyond = refl; below = refl }
 
 -- ---- statements
 
@@ -232,12 +256,58 @@ over =
     after_statements-map large 1 start emptied (multiplied ∷ []) _ (Val (pos 0) ∷ Val (pos 0) ∷ []) (pair_means op.Sub grid grid _ _ grid_means grid_means) refl
     ∙ after_statements-over large 2 (assigned start emptied (Val (pos 0) ∷ Val (pos 0) ∷ [])) multiplied [] _ (record { step = 3; statement = 2; operation = 2; row = 1; col = 2 }) (pair_means op.Mul grid total _ _ grid_means outer) refl
 
+-- the sum is Over, which is counted behind the difference
+abbrev nothing_left : Tree
+nothing_left = tree.Call Scalar op.Sub (grid ∷ grid ∷ [])
+
+abbrev doubled_grid : Tree
+doubled_grid = tree.Call Scalar op.Add (grid ∷ grid ∷ [])
+
+abbrev both : Statement
+both = statement (codes "D") op.Mul nothing_left doubled_grid
+
+over_second : after_statements large 1 start (both ∷ []) ≡ Err (record { step = 3; statement = 1; operation = 2; row = 1; col = 2 })
+unfolding rule_of
+over_second =
+    after_statements-over large 1 start both [] _ (record { step = 3; statement = 1; operation = 2; row = 1; col = 2 })
+    (pair_means op.Mul nothing_left doubled_grid _ _ (pair_means op.Sub grid grid _ _ grid_means grid_means) (pair_means op.Add grid grid _ _ grid_means grid_means)) refl
+
+-- the windows of both cells have both
+abbrev totals : Statement
+totals = record { target = codes "W"; value = tree.CallWith Scalar op.WindowTotal 0 3 (grid ∷ []) }
+
+windowed : after_statements scene 1 start (totals ∷ []) ≡ Ok (assigned start totals (Val (pos 3000000) ∷ Val (pos 3000000) ∷ []))
+unfolding rule_of window_outcome window_of grown places_of place_in
+windowed =
+    after_statements-map scene 1 start totals [] _ (Val (pos 3000000) ∷ Val (pos 3000000) ∷ []) (meaning_of-CallWith Scalar op.WindowTotal 0 3 (grid ∷ []) ∙ ap (λ m. meaning_level (Tree-F.CallWith Scalar op.WindowTotal 0 3 (m ∷ []))) grid_means) refl
+
 pub returns-clause-sections : goal.returns-clause-sections
-returns-clause-sections c = record { last = ap (map_named (codes "C")) ended; above = ap (map_named (codes "D")) ended; first = ap (map_named (codes "D")) over }
+returns-clause-sections c = record { last = ap (map_named (codes "C")) ended; above = ap (map_named (codes "D")) ended; first = ap (map_named (codes "D")) over; behind = ap (map_named (codes "D")) over_second; told = ap (map_named (codes "W")) windowed }
 
 pub returns-clause-files : goal.returns-clause-files
 unfolding rule_of
-returns-clause-files c = record { intervals = refl; classes = refl; columns = refl; no_row = refl; missing_cell = refl }
+returns-clause-files c = record {
+  intervals = refl;
+  classes = refl;
+  columns = refl;
+  no_row = refl;
+  missing_cell = refl;
+  four_keys = refl;
+  second_table = refl;
+  found_boolean = refl;
+  found_nominal = refl;
+  found_ordinal = refl;
+  found_scalar = refl;
+  found_directional = refl;
+  read_boolean = refl;
+  read_nominal = refl;
+  read_ordinal = refl;
+  read_scalar = refl;
+  read_directional = refl;
+  first_file = refl;
+  later_file = refl;
+  short_file = refl;
+}
 
 pub returns-clause-spans : goal.returns-clause-spans
 unfolding stage_of operation_part rule_of
@@ -321,7 +391,27 @@ returns-clause-steps c = record { one = ap (map_named (codes "X")) one_is; two =
 
 pub returns-clause-regions : goal.returns-clause-regions
 unfolding rule_of window_outcome window_of grown places_of place_in area_result most_frequent nearest nearest_size
-returns-clause-regions c = record { window_total = refl; window_majority = refl; area_average = refl; area_total = refl; area_size = refl; map_total = refl }
+returns-clause-regions c = record {
+  window_total = refl;
+  window_rows = refl;
+  window_average = refl;
+  window_minimum = refl;
+  window_maximum = refl;
+  window_diversity = refl;
+  window_alone = refl;
+  window_majority = refl;
+  area_average = refl;
+  area_minimum = refl;
+  area_maximum = refl;
+  area_sums = refl;
+  area_diversity = refl;
+  area_majority = refl;
+  area_total = refl;
+  area_size = refl;
+  map_total = refl;
+  map_minimum = refl;
+  map_maximum = refl;
+}
 
 -- ---- drain directions
 
@@ -369,6 +459,7 @@ returns-clause-masks c = record {
   stages = refl;
   staged = refl;
   second = refl;
+  same = refl;
   drains = ap (map_named (codes "K")) masked_end;
   flows = ap (map_named (codes "Q")) masked_end;
 }
