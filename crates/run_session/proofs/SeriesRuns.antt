@@ -5,7 +5,7 @@ use Rattle.outside_io.specs.Events.{Run}
 use Rattle.outside_io.specs.Runs.{afterwards, end_as, in_turn}
 use Rattle.outside_io.specs.Causes.{CameTo, CutOff, Fault, ReadFault, WriteFault, NoMemory, RunOutcome, outcome_as, outcome_by, stopped_by, why_by}
 use Rattle.outside_io.specs.Met.{Meets}
-use Rattle.outside_io.proofs.Callers.{meets_afterwards, meets_cut_off, meets_end_as, meets_last_stop}
+use Rattle.outside_io.proofs.Callers.{meets_afterwards, meets_cut_off, meets_end_as, meets_last_stop, meets_settled}
 use Rattle.run_session.specs.declared.ends.Stop.{Stop}
 use Rattle.run_session.specs.declared.ends.Stop.TheVariants as stop
 use Rattle.run_session.specs.Ends.{ScriptEnd, Missing, TooLong, Script, Input, TooManyTasks, Overflow, why}
@@ -48,6 +48,12 @@ files_come (stop.Overflow at) other = (Overflow at, refl)
 files_come (stop.FolderReadFault name) other = absurd (other tt)
 files_come (stop.FolderWriteFault name) other = absurd (other tt)
 files_come stop.Memory other = absurd (other tt)
+
+-- no step leads from what stands to the same
+pub no_steps : (plan : Plan) (s : Standing) (first count : ℕ) → count ≡ 0 → (state : FolderState) → Meets (why_by why_steps) (steps_run plan s first count) state state (CameTo (Ok s))
+no_steps plan s first count none state =
+    subst (λ n. Meets (why_by why_steps) (steps_run plan s first n) state state (CameTo (Ok s))) (sym none)
+    (meets_settled (why_by why_steps) (Ok s) state (CameTo (Ok s)) (refl, refl))
 
 module _ (plan : Plan) (s : Standing) (first count : ℕ) (old mid new : FolderState) where
   abbrev steps : Run (Result Standing StepsEnd)

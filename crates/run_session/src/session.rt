@@ -22,7 +22,7 @@ use sqlite_items::Items;
 use std::alloc::Global;
 use std::sync::Arc;
 
-// What was done once a program is run to its end: each grid of `initial`, each stack at each step and each time series is put.
+// What is done once a program is run to its end: each grid of `initial`, each stack at each step and each time series is put.
 fn tally(work: &Work) -> Tally
     requires { IsPrepared work.now }
     ensures { result ≡ tally_of (files_put work.now.program.value) work.now.program.value.steps }
@@ -59,9 +59,10 @@ fn run_start<F: Folder, R: BlockRunner>(
     admitted(runner, &program, inputs.frame.rows, inputs.frame.cols)?;
     // A runner takes one step at least at a time, and is asked for one.
     let _block = runner.block();
-    let work = prepared(alloc, program, inputs, drains)?;
-    run_plan(alloc, folder, runner, &work)?;
-    Ok(tally(&work))
+    let mut work = prepared(alloc, program, inputs, drains)?;
+    let done = tally(&work);
+    run_plan(alloc, folder, runner, &mut work)?;
+    Ok(done)
 }
 
 // Reads the script of this name and its inputs, and runs it.

@@ -1,59 +1,54 @@
 //! One step of a run.
 
-ghost use Rattle.std.specs.Prelude.{◌≡◌, ◌⊎◌, ◌≤◌, ◌-◌, ◌*◌, ℕ, length, map, None, All, IfErr, OnOk};
-ghost use Rattle.outside_io.specs.Runs.{in_turn};
-ghost use Rattle.grid_text.specs.Form.{IsSize};
+ghost use Rattle.std.specs.Prelude.{◌≡◌, ◌⊎◌, ◌<◌, ◌≤◌, ◌-◌, ℕ, map, None, IfErr, OnOk};
 ghost use Rattle.map_meaning.specs.declared.program.Program.{Program as TheProgram};
-ghost use Rattle.run_session.specs.Steps.{Standing, report_run, step_run};
-ghost use Rattle.run_session.specs.inside.Parts.{CutsOff, Makes, MakesFor};
+ghost use Rattle.run_session.specs.Steps.{Standing, step_run};
+ghost use Rattle.run_session.specs.inside.Parts.{CutsOff, MakesFor};
 ghost use Rattle.run_session.specs.inside.Running.{HasStanding, StepStands, IsStanding, IsPrepared};
-ghost use Rattle.run_session.specs.inside.Standings.{AscendFrom, IsOrdered, kept_of, kept_report, program_plan, with_held_row};
+ghost use Rattle.run_session.specs.inside.Standings.{AscendFrom, IsOrdered, program_plan, with_held_row};
 
 use crate::ends::Stop;
 use crate::evaluating::evaluate;
-use crate::frame::Frame;
 use crate::inputs::Inputs;
 use crate::known::shared_known;
 use crate::reports::put_reports;
 use crate::samples::{Sample, add_rows};
 use crate::stacks::read_grids;
 use crate::stages::StageMaps;
-use crate::work::Work;
-use map_meaning::{BlockRunner, Known, OutputUse, Span, StepMap};
+use crate::work::{Work, let_go_of_inputs};
+use map_meaning::{BlockRunner, Known, Span, StepMap};
 use outside_io::Folder;
 use sqlite_items::Items;
-use std::alloc::Global;
+use std::alloc::{AllocError, Global};
+use std::sync::Arc;
 
-// Puts what a step writes, and notes its rows.
-fn report_step<F: Folder>(
+// Notes the rows of a step. What is known at it is let go: the grids of its stacks, and the maps of the step before.
+fn note_rows(
     alloc: Global,
-    folder: &mut F,
-    frame: &Frame,
-    step: u32,
-    known: &Known,
+    known: Arc<Known>,
     maps: &[StepMap],
-    grids: &[OutputUse],
+    step: u32,
     samples: &mut [Sample],
-) -> Result<(), Stop>
-    requires size { IsSize frame.now.rows frame.now.cols }
+) -> Result<(), AllocError>
+    requires ordered { IsOrdered known.value }
     requires ascend { AscendFrom 0 maps.now }
-    requires ordered { IsOrdered known.now }
-    requires counts { All (λ output. length (kept_of maps.now known.now.drains output.value) ≡ frame.now.rows * frame.now.cols) grids.now }
-    ensures meets { Makes (in_turn (report_run frame.now step) tt (map (kept_report maps.now known.now.drains) grids.now)) (F.state folder.old) (F.state folder.new) result }
-    ensures rows { OnOk result (samples.new ≡ map (with_held_row known.now maps.now step) samples.old) }
-    ensures apart { IfErr result CutsOff }
+    ensures { OnOk result (samples.new ≡ map (with_held_row known.value maps.now step) samples.old) }
 {
-    put_reports(
-        alloc,
-        folder,
-        frame,
-        step,
-        maps,
-        known.drains.as_slice(),
-        grids,
-    )?;
-    add_rows(alloc, known, maps, step, samples)?;
-    Ok(())
+    add_rows(alloc, &known, maps, step, samples)
+}
+
+// Lets go of all that only evaluation reads, where no step comes after this one.
+fn let_go(alloc: Global, work: &mut Work, left: &mut StageMaps, step: u32)
+    ensures program { work.new.program ≡ work.old.program }
+    ensures frame { work.new.inputs.frame ≡ work.old.inputs.frame }
+    ensures grids { work.new.grids ≡ work.old.grids }
+    ensures drains { left.new.drains ≡ left.old.drains }
+    ensures more { step < work.old.program.value.steps → (work.new ≡ work.old) × (left.new ≡ left.old) }
+{
+    if step >= work.program.steps {
+        left.kept = Items::new(alloc);
+    }
+    let_go_of_inputs(alloc, work, step);
 }
 
 /// Reads, evaluates and puts one step after others.
@@ -61,25 +56,26 @@ pub fn step_on<F: Folder, R: BlockRunner>(
     alloc: Global,
     folder: &mut F,
     runner: &mut R,
-    work: &Work,
+    work: &mut Work,
     step: u32,
-    left: &StageMaps,
+    left: &mut StageMaps,
     last: Items<StepMap>,
     samples: &mut [Sample],
 ) -> Result<Items<StepMap>, Stop>
     requires ready { R.ready runner.old }
     requires block { 1 ≤ R.block_of runner.old }
-    requires work { IsPrepared work.now }
-    requires admitted { R.admits runner.old work.now.program.value work.now.inputs.frame.rows work.now.inputs.frame.cols ≡ None }
+    requires work { IsPrepared work.old }
+    requires admitted { R.admits runner.old work.old.program.value work.old.inputs.frame.rows work.old.inputs.frame.cols ≡ None }
     requires some { 1 ≤ step }
-    requires there { step ≤ work.now.program.value.steps }
-    requires standing { HasStanding work.now.program.value work.now.inputs (step - 1) left.now last samples.old }
-    ensures meets { (s : Standing) → IsStanding work.now.program.value work.now.inputs (step - 1) s left.now last samples.old
-        → MakesFor (λ t maps. StepStands (R.asked runner.old) (R.asked runner.new) work.now.program.value work.now.inputs step s t left.now maps samples.new)
-        (step_run (program_plan work.now.program.value work.now.inputs) s step) (F.state folder.old) (F.state folder.new) result }
+    requires there { step ≤ work.old.program.value.steps }
+    requires standing { HasStanding work.old.program.value work.old.inputs (step - 1) left.old last samples.old }
+    ensures meets { (s : Standing) → IsStanding work.old.program.value work.old.inputs (step - 1) s left.old last samples.old
+        → MakesFor (λ t maps. StepStands (R.asked runner.old) (R.asked runner.new) work.old.program.value work.old.inputs step s t left.old maps samples.new)
+        (step_run (program_plan work.old.program.value work.old.inputs) s step) (F.state folder.old) (F.state folder.new) result }
     ensures samples { IfErr result (λ stop. CutsOff stop ⊎ (samples.new ≡ samples.old)) }
     ensures ready { R.ready runner.new }
     ensures block { R.block_of runner.new ≡ R.block_of runner.old }
+    ensures more { step < work.old.program.value.steps → (work.new ≡ work.old) × (left.new ≡ left.old) }
     ensures admits { (p : TheProgram) (rows cols : ℕ) → R.admits runner.new p rows cols ≡ R.admits runner.old p rows cols }
 {
     let grids = read_grids(
@@ -95,15 +91,16 @@ pub fn step_on<F: Folder, R: BlockRunner>(
         last: step,
     };
     let maps = evaluate(alloc, runner, &work.program, span, &known)?;
-    report_step(
+    note_rows(alloc, known, maps.as_slice(), step, samples)?;
+    let_go(alloc, work, left, step);
+    put_reports(
         alloc,
         folder,
         &work.inputs.frame,
         step,
-        &known,
         maps.as_slice(),
+        left.drains.as_slice(),
         work.grids.as_slice(),
-        samples,
     )?;
     Ok(maps)
 }

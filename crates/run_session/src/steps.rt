@@ -21,18 +21,18 @@ fn run_steps<F: Folder, R: BlockRunner>(
     alloc: Global,
     folder: &mut F,
     runner: &mut R,
-    work: &Work,
-    left: &StageMaps,
+    work: &mut Work,
+    left: &mut StageMaps,
     samples: &mut [Sample],
 ) -> Result<(), Stop>
     requires ready { R.ready runner.old }
     requires block { 1 ≤ R.block_of runner.old }
-    requires work { IsPrepared work.now }
-    requires admitted { R.admits runner.old work.now.program.value work.now.inputs.frame.rows work.now.inputs.frame.cols ≡ None }
-    requires standing { IsStanding work.now.program.value work.now.inputs 0
-        (standing_at_start (program_plan work.now.program.value work.now.inputs)) left.now [] samples.old }
-    ensures meets { MakesSteps (λ t. AsksFrom (R.asked runner.old) (R.asked runner.new) work.now.program.value work.now.inputs t.grids) samples.new
-        (steps_run (program_plan work.now.program.value work.now.inputs) (standing_at_start (program_plan work.now.program.value work.now.inputs)) 1 work.now.program.value.steps)
+    requires work { IsPrepared work.old }
+    requires admitted { R.admits runner.old work.old.program.value work.old.inputs.frame.rows work.old.inputs.frame.cols ≡ None }
+    requires standing { IsStanding work.old.program.value work.old.inputs 0
+        (standing_at_start (program_plan work.old.program.value work.old.inputs)) left.old [] samples.old }
+    ensures meets { MakesSteps (λ t. AsksFrom (R.asked runner.old) (R.asked runner.new) work.old.program.value work.old.inputs t.grids) samples.new
+        (steps_run (program_plan work.old.program.value work.old.inputs) (standing_at_start (program_plan work.old.program.value work.old.inputs)) 1 work.old.program.value.steps)
         (F.state folder.old) (F.state folder.new) result }
     ensures written { IsErrAnd result CutsOff ⊎ All IsWritable samples.new }
     ensures ready { R.ready runner.new }
@@ -60,18 +60,18 @@ pub fn run_on<F: Folder, R: BlockRunner>(
     alloc: Global,
     folder: &mut F,
     runner: &mut R,
-    work: &Work,
-    left: &StageMaps,
+    work: &mut Work,
+    left: &mut StageMaps,
     samples: &mut [Sample],
 ) -> Result<(), Stop>
     requires ready { R.ready runner.old }
     requires block { 1 ≤ R.block_of runner.old }
-    requires work { IsPrepared work.now }
-    requires admitted { R.admits runner.old work.now.program.value work.now.inputs.frame.rows work.now.inputs.frame.cols ≡ None }
-    requires standing { IsStanding work.now.program.value work.now.inputs 0
-        (standing_at_start (program_plan work.now.program.value work.now.inputs)) left.now [] samples.old }
-    ensures meets { MakesFor (λ t _. AsksFrom (R.asked runner.old) (R.asked runner.new) work.now.program.value work.now.inputs t.grids)
-        (steps_and_series (program_plan work.now.program.value work.now.inputs) (standing_at_start (program_plan work.now.program.value work.now.inputs)) 1 work.now.program.value.steps)
+    requires work { IsPrepared work.old }
+    requires admitted { R.admits runner.old work.old.program.value work.old.inputs.frame.rows work.old.inputs.frame.cols ≡ None }
+    requires standing { IsStanding work.old.program.value work.old.inputs 0
+        (standing_at_start (program_plan work.old.program.value work.old.inputs)) left.old [] samples.old }
+    ensures meets { MakesFor (λ t _. AsksFrom (R.asked runner.old) (R.asked runner.new) work.old.program.value work.old.inputs t.grids)
+        (steps_and_series (program_plan work.old.program.value work.old.inputs) (standing_at_start (program_plan work.old.program.value work.old.inputs)) 1 work.old.program.value.steps)
         (F.state folder.old) (F.state folder.new) result }
     ensures ready { R.ready runner.new }
 {

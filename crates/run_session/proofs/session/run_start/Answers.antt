@@ -78,7 +78,7 @@ returns-clause-meets g c =
     let t = made.0 in
     let P : Program → Inputs → Type 0 = λ p i. Meets (why_by why) (plan_run (program_plan p i)) state after (CameTo (Ok t)) in
     let ends = subst (λ i. P program i) c.in_ok-work.ensures.inputs (subst (λ p. P p work.inputs) c.in_ok-work.ensures.program made.2) in
-    let is : tally_of (files_put program) program.steps ≡ c.tally.result = ap (λ (p : Program). tally_of (files_put p) p.steps) (sym c.in_ok-work.ensures.program) ∙ sym c.tally.ensures in
+    let is : tally_of (files_put program) program.steps ≡ c.tally-done.result = ap (λ (p : Program). tally_of (files_put p) p.steps) (sym c.in_ok-work.ensures.program) ∙ sym c.tally-done.ensures in
     let told = tallied_ends (plan_run plan) program.steps state after (files_put program) t (plan_puts program inputs) ends in
     meets_on why (settled (or_too_many many)) (after_count plan) _ _ _ tt _
     (meets_settled (why_by why) (or_too_many many) state (CameTo (Ok tt)) settles)

@@ -1,25 +1,44 @@
 -- The loop over steps, by the lemmas for a part for each number.
 use Rattle.std.proofs.Common.{◌≡◌, ◌+◌, ◌-◌, ◌<◌, ◌≤◌, map, sym, ap, subst, ◌∙◌, arith, inl, inr}
-use Rattle.std.specs.Prelude.{◌⊎◌}
+use Rattle.std.specs.Prelude.{◌⊎◌, None}
 use Rattle.std.specs.List.{range_with_len}
 use Rattle.outside_io.specs.Causes.{stopped_by, why_by}
 use Rattle.outside_io.specs.Met.{Meets}
 use Rattle.outside_io.proofs.Callers.{next_number, no_number, turn_done, turn_on, turn_stop}
 use Rattle.map_meaning.specs.declared.program.Program.{Program}
+use Rattle.run_session.specs.declared.stages.StageMaps.{StageMaps}
+use Rattle.run_session.specs.declared.work.Work.{Work}
 use Rattle.run_session.specs.Steps.{next_step, standing_at_start, steps_run}
 use Rattle.run_session.specs.inside.Parts.{CutsOff, stop_outcome}
-use Rattle.run_session.specs.inside.Running.{AsksSoFar, AsksStep, IsStanding, steps_outcome, why_steps}
+use Rattle.run_session.specs.inside.Running.{AsksSoFar, AsksStep, HasStanding, IsPrepared, IsStanding, steps_outcome, why_steps}
 use Rattle.run_session.specs.inside.Standings.{program_plan, sampled_of}
 use Rattle.run_session.proofs.StepLoops.{asks_more, fault_same, next_settles, next_stops, steps_out}
 use Rattle.run_session.proofs.steps.run_steps.Goals as goal
 
+pub step_on-requires-clause-work : goal.step_on-requires-clause-work
+step_on-requires-clause-work g c =
+    let less = subst (λ n. c.loop-step.step < n) (ap (λ (p : Program). p.steps) c.deref.ensures) c.loop-step-test.true in
+    subst IsPrepared (sym (c.loop-step.invariant.held less).0) c.requires.work
+
+pub step_on-requires-clause-admitted : goal.step_on-requires-clause-admitted
+step_on-requires-clause-admitted g c =
+    let less = subst (λ n. c.loop-step.step < n) (ap (λ (p : Program). p.steps) c.deref.ensures) c.loop-step-test.true in
+    subst (λ (w : Work). g.R.BlockRunner.admits c.loop-step.runner w.program.value w.inputs.frame.rows w.inputs.frame.cols ≡ None) (sym (c.loop-step.invariant.held less).0) c.loop-step.invariant.admitted
+
+pub step_on-requires-clause-there : goal.step_on-requires-clause-there
+step_on-requires-clause-there g c =
+    let less = subst (λ n. c.loop-step.step < n) (ap (λ (p : Program). p.steps) c.deref.ensures) c.loop-step-test.true in
+    subst (λ (w : Work). c.loop-step.step + 1 ≤ w.program.value.steps) (sym (c.loop-step.invariant.held less).0) (omega (arith, less))
+
 pub step_on-requires-clause-standing : goal.step_on-requires-clause-standing
 step_on-requires-clause-standing g c =
-    let program = c.args.work.now.program.value in
-    let inputs = c.args.work.now.inputs in
+    let less = subst (λ n. c.loop-step.step < n) (ap (λ (p : Program). p.steps) c.deref.ensures) c.loop-step-test.true in
+    let held = c.loop-step.invariant.held less in
     let k = c.loop-step.step in
     let e : k ≡ k + 1 - 1 = omega arith in
-    (c.loop-step.invariant.s, subst (λ n. IsStanding program inputs n c.loop-step.invariant.s c.args.left.now c.loop-step.last c.loop-step.samples) e c.loop-step.invariant.stands)
+    subst (λ (w : Work). HasStanding w.program.value w.inputs (k + 1 - 1) c.loop-step.left c.loop-step.last c.loop-step.samples) (sym held.0)
+    (subst (λ (left : StageMaps). HasStanding c.args.work.now.program.value c.args.work.now.inputs (k + 1 - 1) left c.loop-step.last c.loop-step.samples) (sym held.1)
+    (c.loop-step.invariant.s, subst (λ n. IsStanding c.args.work.now.program.value c.args.work.now.inputs n c.loop-step.invariant.s c.args.left.now c.loop-step.last c.loop-step.samples) e c.loop-step.invariant.stands))
 
 pub returns-in_err-last-clause-meets : goal.returns-in_err-last-clause-meets
 returns-in_err-last-clause-meets g c =
@@ -35,8 +54,10 @@ returns-in_err-last-clause-meets g c =
     let s = inv.s in
     let e : k ≡ k + 1 - 1 = omega arith in
     let at = c.in_err-last.field-0.0 in
+    let held = inv.held (subst (λ n. k < n) count c.loop-step-test.true) in
+    let stepped = rw held.1 at (rw held.0 at c.in_err-last.ensures.meets) in
     let stands = subst (λ n. IsStanding program inputs n s c.args.left.now c.loop-step.last c.loop-step.samples) e inv.stands in
-    let meets = next_stops plan s (k + 1) (state c.loop-step.folder) (state c.step_on.new.folder) (stop_outcome at) (c.in_err-last.ensures.meets s stands) in
+    let meets = next_stops plan s (k + 1) (state c.loop-step.folder) (state c.step_on.new.folder) (stop_outcome at) (stepped s stands) in
     let stopped = turn_stop why_steps (next_step plan) whole (state c.args.folder.now) (range_with_len (k + 1) (steps - k)) s (state c.loop-step.folder) (state c.step_on.new.folder) (k + 1) (range_with_len (k + 1 + 1) (steps - (k + 1))) (steps_outcome s.samples (stop_outcome at)) (next_number k steps (subst (λ n. k < n) count c.loop-step-test.true)) inv.leads meets in
     let by : CutsOff at ⊎ (c.step_on.new.samples ≡ c.loop-step.samples) → steps_outcome s.samples (stop_outcome at) ≡ steps_outcome (map sampled_of c.step_on.new.samples) (stop_outcome at) = λ r.
     elim r [
@@ -60,7 +81,9 @@ loop-step-preserved g c =
     let s = inv.s in
     let e : k ≡ k + 1 - 1 = omega arith in
     let stands = subst (λ n. IsStanding program inputs n s c.args.left.now c.loop-step.last c.loop-step.samples) e inv.stands in
-    let made = c.in_ok-last.ensures.meets s stands in
+    let held = inv.held (subst (λ n. k < n) count c.loop-step-test.true) in
+    let stepped = rw held.1 at (rw held.0 at c.in_ok-last.ensures.meets) in
+    let made = stepped s stands in
     let t = made.0 in
     let settled = made.1 in
     let meets = next_settles plan s (k + 1) (state c.loop-step.folder) (state c.step_on.new.folder) t made.2 in
@@ -72,6 +95,9 @@ loop-step-preserved g c =
       block = subst (λ n. 1 ≤ n) (sym c.in_ok-last.ensures.block) inv.block;
       admitted = c.in_ok-last.ensures.admits program inputs.frame.rows inputs.frame.cols ∙ inv.admitted;
       below = omega (arith, subst (λ n. k < n) count c.loop-step-test.true);
+      held = λ less.
+          let more = c.in_ok-last.ensures.more (subst (λ (w : Work). k + 1 < w.program.value.steps) (sym held.0) less) in
+          (more.0 ∙ held.0, more.1 ∙ held.1);
       s = t;
       stands = settled.stands;
       leads = turn_on why_steps (next_step plan) whole (state c.args.folder.now) (range_with_len (k + 1) (steps - k)) s (state c.loop-step.folder) (state c.step_on.new.folder) (k + 1) (range_with_len (k + 1 + 1) (steps - (k + 1))) t (next_number k steps (subst (λ n. k < n) count c.loop-step-test.true)) inv.leads meets;
