@@ -19,8 +19,8 @@ use crate::unit::{MILLION, PLACES};
 /// The most digits before the point that are read so: their millionths fit into 64 bits.
 const MOST_WHOLE_DIGITS: usize = 12;
 
-/// The most digits that are passed over behind those that count.
-const MOST_DIGITS_PASSED: usize = 100;
+/// The most digits that are passed over behind the one that rounds.
+const MOST_DIGITS_PASSED: usize = 99;
 
 // What a byte stands for as a digit, where it is one.
 #[inline(always)]
@@ -58,7 +58,7 @@ fn leading_number(text: &[u8], most: usize) -> (usize, u64)
 #[inline(always)]
 fn leading_digits(text: &[u8]) -> usize
     ensures within { result ≤ length text.now }
-    ensures few { result ≤ 100 }
+    ensures few { result ≤ 99 }
     ensures digits { IsTrue (are_digits (take result text.now)) }
 {
     let window = text.split_at(MOST_DIGITS_PASSED.min(text.len())).0;
@@ -70,13 +70,12 @@ fn leading_digits(text: &[u8]) -> usize
     window.len()
 }
 
-// Whether so many digits at the front of a text are a half or more of what stands before them.
+// Whether digits that begin with this one are a half or more of what stands before them.
 #[inline(always)]
-fn is_half(text: &[u8], count: usize) -> bool
-    requires { count ≤ length text.now }
-    ensures { result ≡ nat_le (zero_digit + 5) (get_or (take count text.now) 0 zero_digit) }
+fn is_half(first: u8) -> bool
+    ensures { result ≡ nat_le (zero_digit + 5) first }
 {
-    count > 0 && text[0] >= b'5'
+    first >= b'5'
 }
 
 /// The powers of ten up to the sixth.
@@ -104,8 +103,12 @@ fn rounded(size: u64, behind: &[u8]) -> (u64, usize)
     ensures value { let half = nat_le (zero_digit + 5) (get_or (take result.1 behind.now) 0 zero_digit) in
         result.0 ≡ (if half then size + 1 else size) }
 {
-    let passed = leading_digits(behind);
-    (size + u64::from(is_half(behind, passed)), passed)
+    match behind.split_first() {
+        Some((first, more)) if first.is_ascii_digit() => {
+            (size + u64::from(is_half(*first)), 1 + leading_digits(more))
+        }
+        _ => (size, 0),
+    }
 }
 
 // The millionths that stand at the front of a text without a sign, and how many bytes they take: at
