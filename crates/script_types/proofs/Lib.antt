@@ -2,6 +2,7 @@ mod BegunPrograms
 mod BindingLemmas
 mod CallAnswers
 mod DrainInputs
+mod DrainOrder
 mod EmitDrains
 mod EmitLemmas
 mod FirstUses

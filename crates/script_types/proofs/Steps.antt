@@ -38,7 +38,7 @@ use Rattle.script_types.specs.Statements.{all_lines, asked_kind, bound_kind, cou
 use Rattle.script_types.specs.Lowered.{lines_in, total_operations}
 use Rattle.script_types.specs.Reports.{files_read, report_checks}
 use Rattle.script_types.specs.Meaning.{area_checks, binding_checks, meaning}
-use Rattle.script_types.specs.inside.Answers.{Adds, AddsAll, AreNextBelow, BeginsPass, GivesLine, GivesLines, GivesReports, IsCount, IsFew, IsNextBelow, SettlesScript, StandsBelow, area_passes, bindings_pass, reports_pass, told_end}
+use Rattle.script_types.specs.inside.Answers.{Adds, AddsAll, AreNextBelow, BeginsPass, GivesLine, GivesLines, GivesReports, IsCount, IsFew, IsNextBelow, SettlesScript, StandsBelow, answer_with, area_passes, bindings_pass, reports_pass, told_end}
 use Rattle.script_types.specs.inside.Look.{look}
 use Rattle.script_types.specs.inside.Scopes.{binding_in, scope_of}
 use Rattle.script_types.specs.inside.Stacks.{area_use, has_role, with_uses}
@@ -295,9 +295,9 @@ settles-begin script (lower.Meaning f) h = bindings-fail script f h
 settles-begin script lower.Memory h = tt
 
 -- want of memory ends it
-pub begins-memory : (r : Result Tables LowerEnd) (script : Script) → IsErr r → IsErrAnd r (λ e. e ≡ lower.Memory) → BeginsPass r script
-begins-memory (Ok scope) script h m = cc
-begins-memory (Err end) script h m = let P : LowerEnd → Type 0 = λ e. BeginsPass (Err e) script in subst P (sym m) tt
+pub begins-memory : (r : Result (Unit {0}) LowerEnd) (scope : Tables) (script : Script) → IsErr r → IsErrAnd r (λ e. e ≡ lower.Memory) → BeginsPass (answer_with r scope) script
+begins-memory (Ok x) scope script h m = cc
+begins-memory (Err end) scope script h m = let P : LowerEnd → Type 0 = λ e. BeginsPass (Err e) script in subst P (sym m) tt
 
 -- the area map ends it
 pub settles-area : (script : Script) (end : LowerEnd) → bindings_pass [] script.bindings ≡ Ok 0 → GivesReports (Err end) (area_passes script) → SettlesScript (Err end) script

@@ -1,10 +1,13 @@
--- What holds of first faults, of roles and of the kinds of assigned names, in the language's words.
-use Rattle.std.specs.Prelude.{◌≡◌, ℕ, Bool, true, not, List, ◌∷◌, ◌++◌}
+-- What holds of first faults, of roles, of the kinds of assigned names and of drain maps, in the language's words.
+use Rattle.std.specs.Prelude.{◌≡◌, ℕ, Bool, true, not, List, ◌∷◌, ◌++◌, AllPairs}
+use Rattle.std.specs.Option.{is_some}
 use Rattle.std.specs.List.{list_all}
 use Rattle.std.specs.Str.{bytes_eq}
 use Rattle.cell_values.specs.declared.kind.Kind.{Kind}
+use Rattle.map_meaning.specs.declared.program.DrainUse.{DrainUse}
 use Rattle.script_types.specs.declared.typed.Line.{Line}
 use Rattle.script_types.specs.declared.typed.UsedAs.{UsedAs}
+use Rattle.script_types.specs.Lowered.{drain_input}
 use Rattle.script_types.specs.Names.{Use}
 
 -- The fault is that of a test that holds, and no test before it holds.
@@ -33,3 +36,7 @@ pub record IsLastAbove (lines : List Line) (name : List ℕ) (kind : Kind) : Typ
   pub same : bytes_eq name at.statement.target ≡ true
   pub of_kind : at.kind ≡ kind
   pub none : list_all (λ l. not (bytes_eq name l.statement.target)) after ≡ true
+
+-- Before a drain map that is an input each one is an input: those of statements stand behind them.
+abbrev pub HasInputsFirst : List DrainUse → Type 0
+HasInputsFirst drains = AllPairs (λ x y. is_some (drain_input y.from) ≡ true → is_some (drain_input x.from) ≡ true) drains

@@ -17,7 +17,7 @@ pub enum MeaningKind {
     /// A name that is neither bound nor assigned, or a word of no operation.
     #[error("unknown name")]
     UnknownName,
-    /// Operands whose number or kinds no operation takes, or a number that is no value of its kind.
+    /// Operands whose number or kinds no operation takes, a number that is no value of its kind, or a name with two kinds.
     #[error("the kinds do not agree")]
     KindMismatch,
     /// A name that is read above its assignment.
@@ -32,13 +32,14 @@ pub enum MeaningKind {
     /// The length of a window that is no odd whole number from 1 to 31.
     #[error("no length of a window")]
     BadWindow,
-    /// An operation of the section `dynamic` that stands elsewhere.
+    /// An operation of the section `dynamic` that stands elsewhere, or a time series that is no whole right side or not at the name
+    /// of an input grid.
     #[error("the operation may not stand here")]
     WrongSection,
     /// A local drain direction map in a place where none may stand, or none where one is asked.
     #[error("no drain map may stand here")]
     DrainPlace,
-    /// More operations, stacks read or stacks written than a section may have.
+    /// More operations than a section may have, or more stacks read or written than a script may.
     #[error("too many")]
     TooMany,
 }

@@ -197,18 +197,17 @@ fn mark_all(
     Ok(())
 }
 
-/// What was written, with each operation kept exactly where a step, a later stage of `initial` or a mask reads its map, or an output
-/// writes it. Takes time in proportion to what was written.
-pub fn keep(alloc: Global, written: Written) -> Result<Written, AllocError>
-    ensures { IfOk result (λ new. KeepsOperations written new) }
+/// Keeps each operation exactly where a step, a later stage of `initial` or a mask reads its map, or an output writes it. Takes
+/// time in proportion to what was written.
+pub fn keep(alloc: Global, written: &mut Written) -> Result<(), AllocError>
+    ensures { OnOk result (KeepsOperations written.old written.new) }
 {
     let mut marks = vec![in alloc; false; written.initial.len()]?;
     let mut step_marks = vec![in alloc; false; written.dynamic.len()]?;
-    mark_all(alloc, &mut marks, &mut step_marks, &written)?;
-    Ok(Written {
-        initial: with_kept(alloc, written.initial.as_slice(), &marks)?,
-        dynamic: with_kept(alloc, written.dynamic.as_slice(), &step_marks)?,
-        drains: written.drains,
-        outputs: written.outputs,
-    })
+    mark_all(alloc, &mut marks, &mut step_marks, written)?;
+    let initial = with_kept(alloc, written.initial.as_slice(), &marks)?;
+    let dynamic = with_kept(alloc, written.dynamic.as_slice(), &step_marks)?;
+    written.initial = initial;
+    written.dynamic = dynamic;
+    Ok(())
 }

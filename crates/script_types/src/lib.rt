@@ -30,6 +30,6 @@ pub use end::LowerEnd;
 pub use fault::{MeaningFault, MeaningKind, Place};
 pub use laws::{
     a_kind_is_that_of_the_last_assignment_above, a_role_is_that_of_the_first_use,
-    the_first_fault_is_told,
+    drain_maps_of_inputs_stand_first, the_first_fault_is_told,
 };
 pub use lowering::lower;

@@ -3,7 +3,7 @@ ghost use Rattle.std.specs.Option.{option_copied};
 ghost use Rattle.script_types.specs.Names.{inputs_before};
 ghost use Rattle.script_types.specs.Reports.{files_read};
 ghost use Rattle.script_types.specs.Statements.{counts};
-ghost use Rattle.script_types.specs.inside.Answers.{Adds, AddsAll, AreNextBelow, BeginsPass, GivesLines, GivesReports, IsCount, IsFew, IsNextBelow, SettlesScript, StandsBelow, area_passes, reports_pass, told_end};
+ghost use Rattle.script_types.specs.inside.Answers.{Adds, AddsAll, AreNextBelow, BeginsPass, GivesLines, GivesReports, IsCount, IsFew, IsNextBelow, IsUnsettled, SettlesScript, StandsBelow, answer_with, area_passes, reports_pass, told_end};
 ghost use Rattle.script_types.specs.inside.Scopes.{binding_in};
 ghost use Rattle.script_types.specs.inside.Taken.{HasTaken};
 
@@ -38,36 +38,55 @@ fn inputs_before(bound: Option<&Binding>) -> u32
     }
 }
 
-// What names are above the first statement of a script, or the first fault of its bindings.
-fn begin<'a>(alloc: Global, script: &'a Script) -> Result<Scope<'a>, LowerEnd>
-    requires { length script.now.bindings ≤ 1000 }
-    ensures { BeginsPass result script.now }
+/// A script of which nothing is settled yet.
+pub fn unsettled<'a>(alloc: Global, script: &'a Script) -> Settled<'a>
+    ensures { IsUnsettled script.now result.scope result.lines }
+{
+    let scope = Scope {
+        section: Section::Initial,
+        steps: script.steps,
+        bindings: &script.bindings,
+        places: Names::new(alloc),
+        targets: Names::new(alloc),
+        samples: Names::new(alloc),
+        roles: Names::new(alloc),
+        inputs: Names::new(alloc),
+        above: Names::new(alloc),
+        stacks_written: 0,
+        seen: Names::new(alloc),
+        stacks_read: 0,
+    };
+    Settled {
+        scope,
+        lines: Items::new(alloc),
+    }
+}
+
+// Notes what names are above the first statement of a script, or gives the first fault of its bindings.
+fn begin(alloc: Global, script: &Script, settled: &mut Settled<'_>) -> Result<(), LowerEnd>
+    requires few { length script.now.bindings ≤ 1000 }
+    requires unsettled { IsUnsettled script.now settled.old.scope settled.old.lines }
+    ensures begins { BeginsPass (answer_with result settled.new.scope) script.now }
+    ensures none { settled.new.lines ≡ [] }
 {
     let bindings = script.bindings.as_slice();
     let places = match places_of(alloc, bindings) {
         Ok(places) => places,
         Err(end) => return Err(end),
     };
-    let targets = targets_of(alloc, script)?;
-    let samples = samples_of(alloc, script)?;
-    let roles = roles_of(alloc, script)?;
-    let seen = area_role(alloc, script)?;
     let first = inputs_before(bound_in(&script.bindings, &places, script.area.bytes()));
+    settled.scope.places = places;
+    let targets = targets_of(alloc, script)?;
+    let roles = roles_of(alloc, script)?;
     let inputs = numbers_of(alloc, bindings, &targets, &roles, first)?;
-    Ok(Scope {
-        section: Section::Initial,
-        steps: script.steps,
-        bindings: &script.bindings,
-        places,
-        targets,
-        samples,
-        roles,
-        inputs,
-        above: Names::new(alloc),
-        stacks_written: 0,
-        seen,
-        stacks_read: 0,
-    })
+    settled.scope.targets = targets;
+    settled.scope.roles = roles;
+    settled.scope.inputs = inputs;
+    let samples = samples_of(alloc, script)?;
+    settled.scope.samples = samples;
+    let seen = area_role(alloc, script)?;
+    settled.scope.seen = seen;
+    Ok(())
 }
 
 // Tests the area map.
@@ -170,25 +189,20 @@ fn add_section(
     Ok(())
 }
 
-// The settled statements of both sections, or the first fault of one.
-fn lines_of<'a>(
-    alloc: Global,
-    script: &'a Script,
-    scope: Scope<'a>,
-) -> Result<Settled<'a>, LowerEnd>
-    requires below { StandsBelow script.now scope [] }
+// Adds the settled statements of both sections, or gives the first fault of one.
+fn add_lines(alloc: Global, script: &Script, settled: &mut Settled<'_>) -> Result<(), LowerEnd>
+    requires below { StandsBelow script.now settled.old.scope [] }
+    requires none { settled.old.lines ≡ [] }
     requires few { length script.now.initial + length script.now.dynamic ≤ 1000 }
-    ensures { GivesLines result script.now }
+    ensures { GivesLines (answer_with result settled.new) script.now }
 {
-    let mut scope = scope;
-    let mut lines = Items::new(alloc);
     let initial = script.initial.as_slice();
     let dynamic = script.dynamic.as_slice();
     match add_section(
         alloc,
         script,
-        &mut scope,
-        &mut lines,
+        &mut settled.scope,
+        &mut settled.lines,
         Section::Initial,
         initial,
     ) {
@@ -198,15 +212,14 @@ fn lines_of<'a>(
     match add_section(
         alloc,
         script,
-        &mut scope,
-        &mut lines,
+        &mut settled.scope,
+        &mut settled.lines,
         Section::Dynamic,
         dynamic,
     ) {
-        Ok(()) => {}
-        Err(end) => return Err(end),
+        Ok(()) => Ok(()),
+        Err(end) => Err(end),
     }
-    Ok(Settled { scope, lines })
 }
 
 // What a script reads.
@@ -238,27 +251,27 @@ fn check_files(alloc: Global, script: &Script, settled: &Settled<'_>) -> Result<
     check_reports(alloc, &settled.scope, &mut taken, settled.lines.as_slice())
 }
 
-/// The settled statements of a script, or its first fault.
-pub fn settle<'a>(alloc: Global, script: &'a Script) -> Result<Settled<'a>, LowerEnd>
+/// Settles a script in place, or gives its first fault: so that what is settled is one value, which is dropped at one place.
+pub fn settle(alloc: Global, script: &Script, settled: &mut Settled<'_>) -> Result<(), LowerEnd>
     requires bindings { length script.now.bindings ≤ 1000 }
     requires statements { length script.now.initial + length script.now.dynamic ≤ 1000 }
-    ensures { SettlesScript result script.now }
+    requires unsettled { IsUnsettled script.now settled.old.scope settled.old.lines }
+    ensures { SettlesScript (answer_with result settled.new) script.now }
 {
-    let scope = match begin(alloc, script) {
-        Ok(scope) => scope,
-        Err(end) => return Err(end),
-    };
-    match check_area(&scope, script) {
+    match begin(alloc, script, settled) {
         Ok(()) => {}
         Err(end) => return Err(end),
     }
-    let settled = match lines_of(alloc, script, scope) {
-        Ok(settled) => settled,
-        Err(end) => return Err(end),
-    };
-    match check_files(alloc, script, &settled) {
+    match check_area(&settled.scope, script) {
         Ok(()) => {}
         Err(end) => return Err(end),
     }
-    Ok(settled)
+    match add_lines(alloc, script, settled) {
+        Ok(()) => {}
+        Err(end) => return Err(end),
+    }
+    match check_files(alloc, script, settled) {
+        Ok(()) => Ok(()),
+        Err(end) => Err(end),
+    }
 }

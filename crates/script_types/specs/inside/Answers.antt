@@ -166,6 +166,15 @@ GivesReports (Err lower.Memory) value = ⊤
 
 -- ---- the whole
 
+-- nothing of the script is settled
+pub record IsUnsettled (script : Script) (scope : Scope) (lines : List Line) : Type 0 where
+  pub steps : scope.steps ≡ script.steps
+  pub bindings : scope.bindings.now ≡ script.bindings
+  pub above : (name : List ℕ) → look scope.above.values name ≡ None
+  pub written : scope.stacks_written ≡ 0
+  pub read : scope.stacks_read ≡ 0
+  pub none : lines ≡ []
+
 -- an answer gives what names are above the first statement, or the first fault of the bindings, or there was no memory
 abbrev pub BeginsPass : Result Scope LowerEnd → Script → Type 0
 BeginsPass (Ok scope) script = (bindings_pass [] script.bindings ≡ Ok 0) × StandsBelow script scope []
@@ -183,6 +192,11 @@ pub record IsSettled (script : Script) (s : Settled) : Type 0 where
   pub few_initial : total_operations (lines_in Initial s.lines) ≤ most_operations
   pub few_dynamic : total_operations (lines_in Dynamic s.lines) ≤ most_operations
 
+-- an answer with the value that was made in place
+abbrev pub answer_with : {A : Type 0} → Result (Unit {0}) LowerEnd → A → Result A LowerEnd
+answer_with (Ok x) value = Ok value
+answer_with (Err end) value = Err end
+
 -- an answer gives the statements of both sections, or the first fault of one, or there was no memory
 abbrev pub GivesLines : Result Settled LowerEnd → Script → Type 0
 GivesLines (Ok s) script = (all_lines script ≡ Ok s.lines) × IsSettled script s
@@ -194,3 +208,8 @@ abbrev pub SettlesScript : Result Settled LowerEnd → Script → Type 0
 SettlesScript (Ok s) script = (meaning script ≡ Ok s.lines) × IsSettled script s
 SettlesScript (Err (lower.Meaning fault)) script = meaning script ≡ Err fault
 SettlesScript (Err lower.Memory) script = ⊤
+
+-- what was found, or that there was no memory for it
+abbrev pub or_memory : {A E : Type 0} → Result A E → Result A LowerEnd
+or_memory (Ok x) = Ok x
+or_memory (Err e) = Err lower.Memory

@@ -6,7 +6,7 @@ use Rattle.script_types.proofs.kept.keep.Goals as goal
 
 pub returns : goal.returns
 returns c =
-    let w = c.args.written in
+    let w = c.args.written.now in
     let m : List Bool = c.mark_all.new.marks in
     let s : List Bool = c.mark_all.new.step_marks in
     let none : c.deref_mut.result.now ≡ replicate (length w.initial) false = grind (arith, common_steps) in
@@ -19,9 +19,9 @@ returns c =
       drains = refl;
       outputs = refl;
       keep = is_marked m;
-      initial = c.in_ok-with_kept.ensures ∙ ap (λ ops. kept_where (is_marked c.deref.result.now) 0 ops) initial ∙ ap (λ marks. kept_where (is_marked marks) 0 w.initial) all;
+      initial = c.in_ok-initial.ensures ∙ ap (λ ops. kept_where (is_marked c.deref.result.now) 0 ops) initial ∙ ap (λ marks. kept_where (is_marked marks) 0 w.initial) all;
       kept = marks-of-none (length w.initial) c.deref_mut.result.now m (is_kept_by w) none c.in_ok-mark_all.ensures.marks;
       step_keep = is_marked s;
-      dynamic = c.in_ok-with_kept-2.ensures ∙ ap (λ ops. kept_where (is_marked c.deref-2.result.now) 0 ops) dynamic ∙ ap (λ marks. kept_where (is_marked marks) 0 w.dynamic) step_all;
+      dynamic = c.in_ok-dynamic.ensures ∙ ap (λ ops. kept_where (is_marked c.deref-2.result.now) 0 ops) dynamic ∙ ap (λ marks. kept_where (is_marked marks) 0 w.dynamic) step_all;
       step_kept = marks-of-none (length w.dynamic) c.deref_mut-2.result.now s (is_kept_in_steps_by w) step_none c.in_ok-mark_all.ensures.step_marks;
     }

@@ -27,8 +27,8 @@ returns c =
       both = subst (λ ls. AreBothWritten (binding_of script) (inputs_of script) ls w) c.as_slice-2.ensures
           (subst (λ is. AreBothWritten (binding_of script) is c.as_slice-2.result.now w) (c.as_slice.ensures ∙ c.in_ok-inputs.ensures)
           (subst (λ b. AreBothWritten b c.as_slice.result.now c.as_slice-2.result.now w) bound c.in_ok-written.ensures));
-      kept = c.in_ok-kept.kept;
-      keeps = c.in_ok-kept.ensures;
+      kept = c.keep.new.written;
+      keeps = c.in_ok-keep.ensures;
       inputs = c.in_ok-inputs.ensures;
       initial = refl;
       dynamic = refl;
