@@ -86,9 +86,9 @@ means_what meant.Mask = codes ": a mask"
 
 -- a row in one line
 abbrev pub line_of_row : Row → List ℕ
-line_of_row row =
-    without_blanks row.word ++ codes "(" ++ asked_from row 0 row.least ++ asked_behind row ++ codes ") " ++ given_letter row.gives
-    ++ stands_where row.stands ++ means_what row.meant
+line_of_row one =
+    without_blanks one.word ++ codes "(" ++ asked_from one 0 one.least ++ asked_behind one ++ codes ") " ++ given_letter one.gives
+    ++ stands_where one.stands ++ means_what one.meant
 
 -- the table, line by line
 pub record TableExamples : Type 0 where
