@@ -272,6 +272,8 @@ pub record MaskExamples : Type 0 where
       ≡ record { maps = record { step = 0; operation = 1; cells = flows_masked } ∷ []; over = None }
   -- a drain map under another name
   pub same : drain_codes row_scene done_behind_mask (drain.Same 1) ≡ codes_masked
+  -- a mask of the second drain map: the pit stays
+  pub again : drain_codes row_scene done_behind_mask (drain.Mask 1 (from.Initial 0)) ≡ codes_masked
   -- the same by the statements
   pub drains : map_named (codes "K") (section_value row_scene 1 unassigned statements_over_mask) ≡ Ok codes_masked
   pub flows : map_named (codes "Q") (section_value row_scene 1 unassigned statements_over_mask) ≡ Ok flows_masked

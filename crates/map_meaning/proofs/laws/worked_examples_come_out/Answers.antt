@@ -460,6 +460,7 @@ returns-clause-masks c = record {
   staged = refl;
   second = refl;
   same = refl;
+  again = refl;
   drains = ap (map_named (codes "K")) masked_end;
   flows = ap (map_named (codes "Q")) masked_end;
 }
