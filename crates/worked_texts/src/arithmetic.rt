@@ -2,6 +2,20 @@
 
 use cell_values::Cell::{Mv, Val};
 use cell_values::{Cell, Over, add, div, int_div, int_mod, mul, sub};
+use std::process::Abort;
+
+/// What is computed of two scalars.
+#[derive(Clone, Copy, Debug)]
+enum Op {
+    Sum,
+    Difference,
+    Product,
+    Quotient,
+    IntQuotient,
+    Remainder,
+}
+
+use Op::{Difference, IntQuotient, Product, Quotient, Remainder, Sum};
 
 /// The greatest scalar; the least is its negative.
 const MOST: i64 = 9_000_000_000_000_000_000;
@@ -92,32 +106,58 @@ static QUOTIENTS: [(Cell, Cell, Result<Cell, Over>, Result<Cell, Over>); 15] = [
 ];
 
 /// Two operands and what is left of the first.
-static REMAINDERS: [(Cell, Cell, Cell); 9] = [
-    (Val(7_000_000), Val(2_000_000), Val(1_000_000)),
-    (Val(-7_000_000), Val(2_000_000), Val(-1_000_000)),
-    (Val(7_000_000), Val(-2_000_000), Val(1_000_000)),
-    (Val(-7_000_000), Val(-2_000_000), Val(-1_000_000)),
-    (Val(5_500_000), Val(400_000), Val(300_000)),
-    (Val(MOST), Val(-1), Val(0)),
-    (Val(5), Val(0), Mv),
-    (Mv, Val(5), Mv),
-    (Val(5), Mv, Mv),
+static REMAINDERS: [(Cell, Cell, Result<Cell, Over>); 9] = [
+    (Val(7_000_000), Val(2_000_000), Ok(Val(1_000_000))),
+    (Val(-7_000_000), Val(2_000_000), Ok(Val(-1_000_000))),
+    (Val(7_000_000), Val(-2_000_000), Ok(Val(1_000_000))),
+    (Val(-7_000_000), Val(-2_000_000), Ok(Val(-1_000_000))),
+    (Val(5_500_000), Val(400_000), Ok(Val(300_000))),
+    (Val(MOST), Val(-1), Ok(Val(0))),
+    (Val(5), Val(0), Ok(Mv)),
+    (Mv, Val(5), Ok(Mv)),
+    (Val(5), Mv, Ok(Mv)),
 ];
+
+// What an operation gives of two scalars.
+fn computed(op: Op, a: Cell, b: Cell) -> Result<Cell, Over> {
+    match op {
+        Sum => add(a, b),
+        Difference => sub(a, b),
+        Product => mul(a, b),
+        Quotient => div(a, b),
+        IntQuotient => int_div(a, b),
+        Remainder => Ok(int_mod(a, b)),
+    }
+}
+
+// An operation gives this of two scalars.
+fn expect_computed(rt: &impl Abort, op: Op, a: Cell, b: Cell, wanted: Result<Cell, Over>) {
+    assert_eq!(rt; computed(op, a, b), wanted, "{op:?} of {a:?} and {b:?}");
+}
+
+// Two operations give what stands in each row beside its operands.
+fn expect_both(
+    rt: &impl Abort,
+    ops: (Op, Op),
+    rows: &[(Cell, Cell, Result<Cell, Over>, Result<Cell, Over>)],
+) {
+    for (a, b, first, second) in rows {
+        expect_computed(rt, ops.0, *a, *b, *first);
+        expect_computed(rt, ops.1, *a, *b, *second);
+    }
+}
+
+// An operation gives what stands in each row beside its operands.
+fn expect_one(rt: &impl Abort, op: Op, rows: &[(Cell, Cell, Result<Cell, Over>)]) {
+    for (a, b, wanted) in rows {
+        expect_computed(rt, op, *a, *b, *wanted);
+    }
+}
 
 #[test]
 fn computes_by_the_tables(rt: HostRuntime) {
-    for (a, b, sum, difference) in SUMS.iter() {
-        assert_eq!(rt; add(*a, *b), *sum, "of {a:?} and {b:?}");
-        assert_eq!(rt; sub(*a, *b), *difference, "of {a:?} and {b:?}");
-    }
-    for (a, b, product) in PRODUCTS.iter() {
-        assert_eq!(rt; mul(*a, *b), *product, "of {a:?} and {b:?}");
-    }
-    for (a, b, rounded, cut) in QUOTIENTS.iter() {
-        assert_eq!(rt; div(*a, *b), *rounded, "of {a:?} and {b:?}");
-        assert_eq!(rt; int_div(*a, *b), *cut, "of {a:?} and {b:?}");
-    }
-    for (a, b, rest) in REMAINDERS.iter() {
-        assert_eq!(rt; int_mod(*a, *b), *rest, "of {a:?} and {b:?}");
-    }
+    expect_both(&rt, (Sum, Difference), &SUMS);
+    expect_one(&rt, Product, &PRODUCTS);
+    expect_both(&rt, (Quotient, IntQuotient), &QUOTIENTS);
+    expect_one(&rt, Remainder, &REMAINDERS);
 }

@@ -152,13 +152,15 @@ fn written(alloc: Global, cells: &[Cell]) -> Result<Vec<u8>, AllocError>
 
 // Compares a grid with that head and these cells.
 fn expect_grid(rt: &impl Abort, grid: &Grid, cells: &[Cell]) {
+    let head = &grid.head;
     assert_eq!(rt;
-        (grid.rows, grid.cols, grid.head.x_center, grid.head.y_center),
+        (grid.rows, grid.cols, head.x_center, head.y_center),
         (2, 2, true, false)
     );
-    assert_eq!(rt; grid.head.x.bytes(), b"-12.50".as_slice());
-    assert_eq!(rt; grid.head.y.bytes(), b"0".as_slice());
-    assert_eq!(rt; grid.head.size.bytes(), b"1e2".as_slice());
+    assert_eq!(rt;
+        [head.x.bytes(), head.y.bytes(), head.size.bytes()],
+        [b"-12.50".as_slice(), b"0".as_slice(), b"1e2".as_slice()]
+    );
     assert_eq!(rt; grid.cells.as_slice(), cells);
 }
 

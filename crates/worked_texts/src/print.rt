@@ -5,6 +5,7 @@ use cell_values::Kind::{Boolean, Directional, Ldd, Nominal, Ordinal, Scalar};
 use cell_values::{Cell, Kind, print_cell};
 use grid_text::{Grid, ReadGrid, read_grid};
 use std::alloc::{AllocError, Global};
+use std::process::Abort;
 use std::test::Fail;
 
 /// A kind, a cell of it and its text.
@@ -78,13 +79,25 @@ fn cell_of_one(alloc: Global, number: &str) -> Result<Cell, Fail> {
     }
 }
 
+// A cell is printed so, behind two bytes.
+fn expect_printed(
+    rt: &impl Abort,
+    alloc: Global,
+    kind: Kind,
+    cell: Cell,
+    text: &str,
+    row: &str,
+) -> Result<(), AllocError> {
+    let out = printed_behind(alloc, kind, cell)?;
+    let wanted = format!(in alloc; "> {text}")?;
+    assert_eq!(rt; out.as_slice(), wanted.as_bytes(), "for {row}");
+    Ok(())
+}
+
 #[test]
 fn prints_each_kind(rt: HostRuntime) -> Result<(), Fail> {
     for (kind, cell, text) in PRINTED.iter() {
-        let out = printed_behind(rt.alloc(), *kind, *cell)?;
-        assert!(rt; out.starts_with(b"> "), "before {text}");
-        assert!(rt; out.ends_with(text.as_bytes()), "for {text}");
-        assert_eq!(rt; out.len(), text.len() + 2, "for {text}");
+        expect_printed(&rt, rt.alloc(), *kind, *cell, text, text)?;
     }
     Ok(())
 }
@@ -93,9 +106,7 @@ fn prints_each_kind(rt: HostRuntime) -> Result<(), Fail> {
 fn prints_what_other_programs_write(rt: HostRuntime) -> Result<(), Fail> {
     for (number, text) in REPRINTED.iter() {
         let cell = cell_of_one(rt.alloc(), number)?;
-        let out = printed_behind(rt.alloc(), Scalar, cell)?;
-        assert!(rt; out.ends_with(text.as_bytes()), "for {number}");
-        assert_eq!(rt; out.len(), text.len() + 2, "for {number}");
+        expect_printed(&rt, rt.alloc(), Scalar, cell, text, number)?;
     }
     Ok(())
 }

@@ -373,12 +373,17 @@ fn told(alloc: Global, fault: SyntaxFault) -> Result<Vec<u8>, AllocError> {
     Vec::from_slice(alloc, text.as_bytes())
 }
 
+// What a text is read as.
+fn read(alloc: Global, text: &[u8]) -> Result<Script, ReadScript> {
+    if text.len() > 1_000_000 {
+        return Err(ReadScript::Memory);
+    }
+    read_script(alloc, text)
+}
+
 // What a text is read as: its tree or its fault, as text.
 fn outcome(alloc: Global, text: &[u8]) -> Result<Vec<u8>, AllocError> {
-    if text.len() > 1_000_000 {
-        return Err(AllocError);
-    }
-    match read_script(alloc, text) {
+    match read(alloc, text) {
         Ok(script) => shown(alloc, &script),
         Err(ReadScript::Syntax(fault)) => told(alloc, fault),
         Err(ReadScript::Memory) => Err(AllocError),
@@ -386,11 +391,7 @@ fn outcome(alloc: Global, text: &[u8]) -> Result<Vec<u8>, AllocError> {
 }
 
 // Compares what the texts of a table are read as.
-fn expect_outcomes(
-    rt: &impl Abort,
-    alloc: Global,
-    rows: &[(&str, &str)],
-) -> Result<(), AllocError> {
+fn expect_outcomes(rt: &impl Abort, alloc: Global, rows: &[(&str, &str)]) -> Result<(), Fail> {
     for (text, wanted) in rows {
         let found = outcome(alloc, text.as_bytes())?;
         assert_eq!(rt; found.as_slice(), wanted.as_bytes(), "of {text}");
@@ -478,15 +479,13 @@ static REPEATED: [((&str, &str, u32, &str), Option<&str>); 12] = [
 
 #[test]
 fn reads_trees(rt: HostRuntime) -> Result<(), Fail> {
-    expect_outcomes(&rt, rt.alloc(), &TREES)?;
-    Ok(())
+    expect_outcomes(&rt, rt.alloc(), &TREES)
 }
 
 #[test]
 fn tells_first_faults(rt: HostRuntime) -> Result<(), Fail> {
     expect_outcomes(&rt, rt.alloc(), &FAULTS)?;
-    expect_outcomes(&rt, rt.alloc(), &LONG)?;
-    Ok(())
+    expect_outcomes(&rt, rt.alloc(), &LONG)
 }
 
 #[test]

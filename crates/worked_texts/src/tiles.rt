@@ -213,17 +213,17 @@ fn tile_of(sides: Sides, place: u32) -> Option<u32> {
 
 #[test]
 fn counts_tiles(rt: HostRuntime) {
-    for (sides, want) in COUNTS {
-        assert_eq!(rt; count(sides), Some(want), "{sides:?}");
+    for (sides, want) in COUNTS.iter() {
+        assert_eq!(rt; count(*sides), Some(*want), "{sides:?}");
     }
 }
 
 #[test]
 fn tiles_are_rectangles(rt: HostRuntime) {
-    for (sides, tile, want) in RECTS {
+    for (sides, tile, want) in RECTS.iter() {
         assert_eq!(rt;
-            rect_of_tile(sides, tile),
-            Some(rect(want)),
+            rect_of_tile(*sides, *tile),
+            Some(rect(*want)),
             "{sides:?} {tile}"
         );
     }
@@ -240,10 +240,10 @@ fn places_lie_in_tiles(rt: HostRuntime) {
 
 #[test]
 fn halos_end_at_the_border(rt: HostRuntime) {
-    for (sides, tile, k, want) in HALOS {
+    for (sides, tile, k, want) in HALOS.iter() {
         assert_eq!(rt;
-            halo(sides, tile, k),
-            Some(rect(want)),
+            halo(*sides, *tile, *k),
+            Some(rect(*want)),
             "{sides:?} {tile} {k}"
         );
     }
@@ -344,9 +344,9 @@ fn has_values(cells: &[Cell], values: &[i64]) -> bool {
 
 #[test]
 fn rectangles_meet_tiles(rt: HostRuntime) -> Result<(), Fail> {
-    for (four, want) in MET {
-        let tiles = tiles_met(rt.alloc(), &five_by_seven(), rect(four))?;
-        assert_eq!(rt; tiles.as_slice(), want, "{four:?}");
+    for (four, want) in MET.iter() {
+        let tiles = tiles_met(rt.alloc(), &five_by_seven(), rect(*four))?;
+        assert_eq!(rt; tiles.as_slice(), *want, "{four:?}");
     }
     Ok(())
 }
@@ -354,8 +354,8 @@ fn rectangles_meet_tiles(rt: HostRuntime) -> Result<(), Fail> {
 #[test]
 fn cuts_go_row_by_row(rt: HostRuntime) -> Result<(), Fail> {
     let map = numbered_map(rt.alloc())?;
-    for (four, want) in CUTS {
-        let cells = cut(rt.alloc(), &map, rect(four))?;
+    for (four, want) in CUTS.iter() {
+        let cells = cut(rt.alloc(), &map, rect(*four))?;
         assert!(rt; has_values(cells.as_slice(), want), "{four:?}: {cells:?}");
     }
     Ok(())
@@ -364,8 +364,8 @@ fn cuts_go_row_by_row(rt: HostRuntime) -> Result<(), Fail> {
 #[test]
 fn tiles_are_gathered(rt: HostRuntime) -> Result<(), Fail> {
     let tiles = all_tiles(rt.alloc(), &numbered_map(rt.alloc())?)?;
-    for (four, want) in CUTS {
-        let cells = gather(rt.alloc(), &tiles, rect(four))?;
+    for (four, want) in CUTS.iter() {
+        let cells = gather(rt.alloc(), &tiles, rect(*four))?;
         assert!(rt; has_values(cells.as_slice(), want), "{four:?}: {cells:?}");
     }
     Ok(())
@@ -385,20 +385,21 @@ fn tiles_are_pasted(rt: HostRuntime) -> Result<(), Fail> {
     Ok(())
 }
 
+// The map that these tiles make, pasted from the last to the first.
+fn pasted(alloc: Global, source: &Tiled) -> Result<Cells, Fail> {
+    let mut cells = vec![in alloc; Mv; 35]?;
+    for (tile, part) in source.tiles.iter().enumerate().rev() {
+        let tile = u32::try_from(tile)?;
+        paste(&source.tiling, cells.as_mut_slice(), tile, part.as_slice())?;
+    }
+    Ok(Cells::from_vec(cells))
+}
+
 #[test]
 fn pasted_tiles_make_the_map(rt: HostRuntime) -> Result<(), Fail> {
     let map = numbered_map(rt.alloc())?;
-    let tiles = all_tiles(rt.alloc(), &map)?;
-    let mut pasted = vec![in rt.alloc(); Mv; 35]?;
-    for (tile, cells) in tiles.tiles.iter().enumerate().rev() {
-        paste(
-            &map.tiling,
-            pasted.as_mut_slice(),
-            u32::try_from(tile)?,
-            cells.as_slice(),
-        )?;
-    }
-    assert_eq!(rt; pasted.as_slice(), map.cells.as_slice());
+    let cells = pasted(rt.alloc(), &all_tiles(rt.alloc(), &map)?)?;
+    assert_eq!(rt; cells.as_slice(), map.cells.as_slice());
     Ok(())
 }
 

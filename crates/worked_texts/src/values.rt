@@ -4,6 +4,7 @@ use cell_values::Cell::Val;
 use cell_values::Kind::{Boolean, Directional, Ldd, Nominal, Ordinal, Scalar};
 use cell_values::NumberFault::{BadNumber, Range};
 use cell_values::{Cell, Cells, Kind, NumberFault, Word, is_decimal, read_cell, same_decimal};
+use std::alloc::{AllocError, Global};
 use std::test::Fail;
 
 /// A kind, a text and what the kind reads from it.
@@ -129,36 +130,53 @@ static SAME: [(&str, &str, bool); 20] = [
 #[test]
 fn reads_texts(rt: HostRuntime) {
     for (kind, text, cell) in READ.iter() {
+        let bytes = text.as_bytes();
         assert_eq!(rt;
-            read_cell(*kind, text.as_bytes()),
-            *cell,
+            (read_cell(*kind, bytes), is_decimal(bytes)),
+            (*cell, *cell != Err(BadNumber)),
             "of '{text}' as {kind:?}"
         );
-        assert_eq!(rt;
-            is_decimal(text.as_bytes()),
-            *cell != Err(BadNumber),
-            "of '{text}'"
-        );
+    }
+}
+
+// Whether two texts have one exact value, where they are decimals.
+fn are_same(a: &str, b: &str) -> Option<bool> {
+    let (a, b) = (a.as_bytes(), b.as_bytes());
+    if is_decimal(a) && is_decimal(b) {
+        Some(same_decimal(a, b))
+    } else {
+        None
     }
 }
 
 #[test]
 fn compares_texts(rt: HostRuntime) {
     for (left, right, same) in SAME.iter() {
-        let (a, b) = (left.as_bytes(), right.as_bytes());
-        assert!(rt; is_decimal(a), "of '{left}'");
-        assert!(rt; is_decimal(b), "of '{right}'");
-        assert_eq!(rt; same_decimal(a, b), *same, "of '{left}' and '{right}'");
-        assert_eq!(rt; same_decimal(b, a), *same, "of '{right}' and '{left}'");
+        assert_eq!(rt;
+            [are_same(left, right), are_same(right, left)],
+            [Some(*same), Some(*same)],
+            "of '{left}' and '{right}'"
+        );
     }
 }
 
-#[test]
-fn hands_on_words_and_cells(rt: HostRuntime) -> Result<(), Fail> {
-    let word = Word::new(rt.alloc(), b"rain.asc")?;
-    let twin = word.twin(rt.alloc())?;
+// A word that is handed on, behind the end of the first.
+fn twin_of(alloc: Global, bytes: &[u8]) -> Result<Word, AllocError> {
+    let word = Word::new(alloc, bytes)?;
+    let twin = word.twin(alloc)?;
     drop(word);
+    Ok(twin)
+}
+
+#[test]
+fn hands_on_words(rt: HostRuntime) -> Result<(), Fail> {
+    let twin = twin_of(rt.alloc(), b"rain.asc")?;
     assert_eq!(rt; twin.bytes(), b"rain.asc".as_slice());
+    Ok(())
+}
+
+#[test]
+fn hands_on_cells(rt: HostRuntime) -> Result<(), Fail> {
     let cells = Cells::from_vec(vec![in rt.alloc(); Val(7), Cell::Mv]?);
     assert_eq!(rt; cells.len(), 2);
     assert_eq!(rt; cells.as_slice(), [Val(7), Cell::Mv].as_slice());

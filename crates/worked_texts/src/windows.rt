@@ -6,6 +6,7 @@ use cell_values::Cell::{Mv, Val};
 use region_meaning::WindowOp;
 use region_meaning::WindowOp::{Average, Diversity, Majority, Maximum, Minimum, Total};
 use std::alloc::Global;
+use std::process::Abort;
 use std::test::Fail;
 use tile_map::{Part, Rect, Tiling};
 use window_ops::window_part;
@@ -326,23 +327,34 @@ fn first_over(alloc: Global, op: WindowOp, cells: &[Cell]) -> Result<Option<u32>
     Ok(windows(alloc, op, 1, cells, whole, whole)?.over)
 }
 
+// The windows of each row's map come out so.
+fn expect_windows(rt: &impl Abort, alloc: Global, rows: &[Row]) -> Result<(), Fail> {
+    for (op, k, sides, cells, want) in rows {
+        let got = by_tiles(alloc, *op, *k, *sides, cells)?;
+        assert_eq!(rt; got.as_slice(), *want, "{op:?} {k} {sides:?}");
+    }
+    Ok(())
+}
+
 #[test]
 fn windows_come_out(rt: HostRuntime) -> Result<(), Fail> {
-    for (op, k, sides, cells, want) in WINDOWS {
-        let got = by_tiles(rt.alloc(), op, k, sides, cells)?;
-        assert_eq!(rt; got.as_slice(), want, "{op:?} {k} {sides:?}");
+    expect_windows(&rt, rt.alloc(), &WINDOWS)
+}
+
+// The first place out of range is that of each row.
+fn expect_overs(
+    rt: &impl Abort,
+    alloc: Global,
+    rows: &[(WindowOp, &[Cell], Option<u32>)],
+) -> Result<(), Fail> {
+    for (op, cells, want) in rows {
+        let over = first_over(alloc, *op, cells)?;
+        assert_eq!(rt; over, *want, "{op:?} {cells:?}");
     }
     Ok(())
 }
 
 #[test]
 fn the_first_over_is_told(rt: HostRuntime) -> Result<(), Fail> {
-    for (op, cells, want) in OVERS {
-        assert_eq!(rt;
-            first_over(rt.alloc(), op, cells)?,
-            want,
-            "{op:?} {cells:?}"
-        );
-    }
-    Ok(())
+    expect_overs(&rt, rt.alloc(), &OVERS)
 }
