@@ -2,12 +2,10 @@
 //! worked out from the rules of the language.
 
 use crate::told::Told::{Area, At, Entry, Fine, Timed};
-use crate::told::{Told, expect_told};
+use crate::told::{Told, expect_pairs, expect_rows, expect_told};
 use script_types::MeaningKind::{
     BadWindow, DrainPlace, KindMismatch, NameClash, NotAssigned, UnknownName, WrongSection,
 };
-use std::alloc::Global;
-use std::process::Abort;
 use std::test::Fail;
 
 /// The entries of the tables: a drain map and grids of other kinds, numbers, a target of kind ldd, stacks of kind ldd, of which
@@ -188,60 +186,19 @@ const ROUTING: &str =
     Wet = timeinputscalar(Rain, Zone) + windowaverage(Soil, 3); Store = Store + accuthresholdstate(Ldd, Wet, Soil); \
     report Q = accuthresholdflux(Ldd, Wet, Soil); report Mean = areaaverage(Wet, Zone); report T = timeoutput(Zone, Q);";
 
-// Statements of `initial` are told this.
-fn expect_initial(
-    rt: &impl Abort,
-    alloc: Global,
-    statements: &str,
-    expected: Told,
-) -> Result<(), Fail> {
-    let text = format!(in alloc; "binding {ENTRIES} areamap A; initial {statements}")?;
-    expect_told(rt, alloc, &text, expected, statements)
-}
-
-// Sections of a script with four steps are told this.
-fn expect_sections(
-    rt: &impl Abort,
-    alloc: Global,
-    sections: &str,
-    expected: Told,
-) -> Result<(), Fail> {
-    let text = format!(in alloc; "binding {ENTRIES} areamap A; timer 1 4 1; {sections}")?;
-    expect_told(rt, alloc, &text, expected, sections)
-}
-
-// A script with this entry and this area map is told this.
-fn expect_area(
-    rt: &impl Abort,
-    alloc: Global,
-    entry: &str,
-    area: &str,
-    expected: Told,
-) -> Result<(), Fail> {
-    let text = format!(in alloc; "binding {entry} A = a.asc; areamap {area}; initial C = A;")?;
-    expect_told(rt, alloc, &text, expected, &text)
-}
-
 #[test]
 fn drain_maps_of_initial(rt: HostRuntime) -> Result<(), Fail> {
-    for (text, expected) in &STATEMENTS {
-        expect_initial(&rt, rt.alloc(), text, *expected)?;
-    }
-    Ok(())
+    expect_rows(&rt, rt.alloc(), ENTRIES, "initial", &STATEMENTS)
 }
 
 #[test]
 fn drain_maps_of_both_sections(rt: HostRuntime) -> Result<(), Fail> {
-    for (text, expected) in &SECTIONS {
-        expect_sections(&rt, rt.alloc(), text, *expected)?;
-    }
+    expect_rows(&rt, rt.alloc(), ENTRIES, "timer 1 4 1;", &SECTIONS)?;
     expect_told(&rt, rt.alloc(), ROUTING, Timed(1, 7), "routing")
 }
 
 #[test]
 fn drain_maps_of_bindings(rt: HostRuntime) -> Result<(), Fail> {
-    for (entry, area, expected) in &AREAS {
-        expect_area(&rt, rt.alloc(), entry, area, *expected)?;
-    }
-    Ok(())
+    let parts = ("binding ", " A = a.asc; areamap ", "; initial C = A;");
+    expect_pairs(&rt, rt.alloc(), parts, &AREAS)
 }

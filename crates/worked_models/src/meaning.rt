@@ -1,20 +1,10 @@
 //! Scripts with their first fault of meaning, or how many operations their programs have. The answers were worked out from
 //! the rules of the language.
 
-ghost use Rattle.std.specs.Prelude.{IfOk};
-ghost use Rattle.script_syntax.specs.WellMade.{IsWellMade};
-
-use crate::texts::{program_of, script_of};
 use crate::told::Told::{Area, At, Entry, Fine};
-use crate::told::{Told, expect_told};
-use cell_values::Cell::Val;
-use cell_values::Kind;
-use map_meaning::Operand::{Initial, Input, Literal, Unused};
-use map_meaning::{Op, Operand, Operation};
-use script_syntax::Script;
+use crate::told::{Told, expect_pairs, expect_rows, expect_told};
 use script_types::MeaningKind::{KindMismatch, NameClash, NotAssigned, TooMany, UnknownName};
 use std::alloc::{AllocError, Global};
-use std::process::Abort;
 use std::test::Fail;
 
 /// The entries of the tables: inputs of each kind, numbers with a kind and without, files that are written.
@@ -212,153 +202,29 @@ static AREAS: [(&str, &str, Told); 7] = [
     ("C", "C = A; report E = C;", Fine(2)),
 ];
 
-/// Two entries of `binding` with the area map `A`, and the statement `report C = A;`.
-static PAIRS: [(&str, Told); 7] = [
-    ("A = a; A = b;", Entry(2, NameClash)),
-    ("A = 2 : boolean; A = 2;", Entry(1, KindMismatch)),
-    ("A = a; Q = 1.5 : ordinal;", Entry(2, KindMismatch)),
-    ("A = a; Q = 360 : directional;", Entry(2, KindMismatch)),
-    ("A = 1; Q = 1;", Area(KindMismatch)),
-    ("A = a; Q = 1.0 : ordinal;", Fine(1)),
-    ("A = a : ldd; A = a;", Entry(2, NameClash)),
+/// Two entries of `binding` and the area map, with the statement `report C = A;`.
+static PAIRS: [(&str, &str, Told); 7] = [
+    ("A = a; A = b;", "A", Entry(2, NameClash)),
+    ("A = 2 : boolean; A = 2;", "A", Entry(1, KindMismatch)),
+    ("A = a; Q = 1.5 : ordinal;", "A", Entry(2, KindMismatch)),
+    ("A = a; Q = 360 : directional;", "A", Entry(2, KindMismatch)),
+    ("A = 1; Q = 1;", "A", Area(KindMismatch)),
+    ("A = a; Q = 1.0 : ordinal;", "A", Fine(1)),
+    ("A = a : ldd; A = a;", "A", Entry(2, NameClash)),
 ];
-
-// The script with these entries, this area map and these statements of `initial`.
-fn script(alloc: Global, entries: &str, area: &str, statements: &str) -> Result<Script, Fail>
-    ensures { IfOk result IsWellMade }
-{
-    let text = format!(in alloc; "binding {entries} areamap {area}; initial {statements}")?;
-    script_of(alloc, &text)
-}
-
-// A script of these parts is told this.
-fn expect_answer(
-    rt: &impl Abort,
-    alloc: Global,
-    entries: &str,
-    area: &str,
-    statements: &str,
-    expected: Told,
-) -> Result<(), Fail> {
-    let text = format!(in alloc; "binding {entries} areamap {area}; initial {statements}")?;
-    expect_told(rt, alloc, &text, expected, &text)
-}
 
 #[test]
 fn first_faults_of_statements(rt: HostRuntime) -> Result<(), Fail> {
-    for (text, expected) in &STATEMENTS {
-        expect_answer(&rt, rt.alloc(), ENTRIES, "A", text, *expected)?;
-    }
-    Ok(())
+    expect_rows(&rt, rt.alloc(), ENTRIES, "initial", &STATEMENTS)
 }
 
 #[test]
 fn first_faults_of_areas_and_bindings(rt: HostRuntime) -> Result<(), Fail> {
-    for (area, text, expected) in &AREAS {
-        expect_answer(&rt, rt.alloc(), ENTRIES, area, text, *expected)?;
-    }
-    for (entries, expected) in &PAIRS {
-        expect_answer(&rt, rt.alloc(), entries, "A", "report C = A;", *expected)?;
-    }
-    Ok(())
-}
-
-/// An operation: what it computes, its kind, its operands, its statement and its number in it, and whether it is kept.
-type Written = (Op, Kind, Operand, Operand, Operand, u32, u32, bool);
-
-/// The statements of a program that is written out. The inputs are A, S, N and B.
-const PROGRAM: &str = "Y = A + S; report C = min(Y, 2, A); report E = if(B then Y else C); Q = N;";
-
-/// Its operations.
-static OPERATIONS: [Written; 5] = [
-    (
-        Op::Add,
-        Kind::Scalar,
-        Input(0),
-        Input(1),
-        Unused,
-        1,
-        1,
-        false,
-    ),
-    (
-        Op::Min,
-        Kind::Scalar,
-        Initial(0),
-        Literal(Kind::Scalar, Val(2_000_000)),
-        Unused,
-        2,
-        1,
-        false,
-    ),
-    (
-        Op::Min,
-        Kind::Scalar,
-        Initial(1),
-        Input(0),
-        Unused,
-        2,
-        2,
-        true,
-    ),
-    (
-        Op::IfElse,
-        Kind::Scalar,
-        Input(3),
-        Initial(0),
-        Initial(2),
-        3,
-        1,
-        true,
-    ),
-    (
-        Op::CopyOf,
-        Kind::Nominal,
-        Input(2),
-        Unused,
-        Unused,
-        4,
-        1,
-        false,
-    ),
-];
-
-// An operation of a program, to be compared.
-fn written(operation: &Operation) -> Written {
-    (
-        operation.op,
-        operation.kind,
-        operation.a,
-        operation.b,
-        operation.c,
-        operation.statement,
-        operation.number,
-        operation.kept,
-    )
-}
-
-#[test]
-fn a_program_written_out(rt: HostRuntime) -> Result<(), Fail> {
-    let script = script(rt.alloc(), ENTRIES, "A", PROGRAM)?;
-    let program = program_of(rt.alloc(), &script)?;
-    assert_eq!(rt; program.initial.len(), OPERATIONS.len());
-    for (operation, expected) in program.initial.as_slice().iter().zip(&OPERATIONS) {
-        assert_eq!(rt;
-            written(operation),
-            *expected,
-            "{}.{}",
-            expected.5,
-            expected.6
-        );
-    }
-    assert_eq!(rt; program.inputs.len(), 4);
-    assert_eq!(rt; program.area, 0);
-    assert_eq!(rt; program.outputs.len(), 2);
-    for (output, number) in program.outputs.as_slice().iter().zip([2, 3]) {
-        assert_eq!(rt; output.value, Initial(number));
-        assert_eq!(rt; output.statement, number);
-    }
-    Ok(())
+    let alloc = rt.alloc();
+    let front = format!(in alloc; "binding {ENTRIES} areamap ")?;
+    expect_pairs(&rt, alloc, (front.as_str(), "; initial ", ""), &AREAS)?;
+    let parts = ("binding ", " areamap ", "; initial report C = A;");
+    expect_pairs(&rt, alloc, parts, &PAIRS)
 }
 
 /// Statements of 64 sums each.
@@ -377,9 +243,9 @@ pub(crate) fn sums(alloc: Global, count: usize) -> Result<String, AllocError> {
 #[test]
 fn most_operations(rt: HostRuntime) -> Result<(), Fail> {
     let alloc = rt.alloc();
-    let mut text = sums(alloc, 128)?;
-    expect_answer(&rt, alloc, ENTRIES, "A", &text, Fine(8192))?;
-    text.push_str("Q = A;")?;
-    expect_answer(&rt, alloc, ENTRIES, "A", &text, At(129, TooMany))?;
-    Ok(())
+    let most = sums(alloc, 128)?;
+    let text = format!(in alloc; "binding {ENTRIES} areamap A; initial {most}")?;
+    expect_told(&rt, alloc, &text, Fine(8192), "most operations")?;
+    let text = format!(in alloc; "{text}Q = A;")?;
+    expect_told(&rt, alloc, &text, At(129, TooMany), "one more")
 }

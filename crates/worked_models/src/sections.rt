@@ -3,7 +3,7 @@
 
 use crate::meaning::sums;
 use crate::told::Told::{Area, At, Timed};
-use crate::told::{Told, expect_told};
+use crate::told::{Told, expect_rows, expect_told};
 use script_types::MeaningKind::{
     BadStackName, KindMismatch, NameClash, NotAssigned, TooMany, UnknownName, WrongSection,
 };
@@ -532,20 +532,22 @@ fn expect_timed(
     expect_told(rt, alloc, &text, expected, row)
 }
 
-#[test]
-fn first_faults_of_sections(rt: HostRuntime) -> Result<(), Fail> {
-    for (sections, expected) in &SECTIONS {
-        expect_timed(&rt, rt.alloc(), "4", sections, *expected, sections)?;
+// Each script with this last step and these sections is told what stands beside them.
+fn expect_steps(rt: &impl Abort, alloc: Global, rows: &[(&str, &str, Told)]) -> Result<(), Fail> {
+    for (steps, sections, expected) in rows {
+        expect_timed(rt, alloc, steps, sections, *expected, sections)?;
     }
     Ok(())
 }
 
 #[test]
+fn first_faults_of_sections(rt: HostRuntime) -> Result<(), Fail> {
+    expect_rows(&rt, rt.alloc(), ENTRIES, "timer 1 4 1;", &SECTIONS)
+}
+
+#[test]
 fn first_faults_by_the_last_step(rt: HostRuntime) -> Result<(), Fail> {
-    for (steps, sections, expected) in &STEPS {
-        expect_timed(&rt, rt.alloc(), steps, sections, *expected, sections)?;
-    }
-    Ok(())
+    expect_steps(&rt, rt.alloc(), &STEPS)
 }
 
 #[test]

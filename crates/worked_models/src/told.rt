@@ -64,3 +64,33 @@ pub(crate) fn expect_told(
     assert_eq!(rt; found, expected, "{row}");
     Ok(())
 }
+
+/// With these entries, the area map `A` and this behind it, each row is told what stands beside it.
+pub(crate) fn expect_rows(
+    rt: &impl Abort,
+    alloc: Global,
+    entries: &str,
+    section: &str,
+    rows: &[(&str, Told)],
+) -> Result<(), Fail> {
+    for (row, expected) in rows {
+        let text = format!(in alloc; "binding {entries} areamap A; {section} {row}")?;
+        expect_told(rt, alloc, &text, *expected, row)?;
+    }
+    Ok(())
+}
+
+/// A script of these parts, with the two of a row between them, is told what stands beside the row.
+pub(crate) fn expect_pairs(
+    rt: &impl Abort,
+    alloc: Global,
+    parts: (&str, &str, &str),
+    rows: &[(&str, &str, Told)],
+) -> Result<(), Fail> {
+    let (front, middle, end) = parts;
+    for (first, second, expected) in rows {
+        let text = format!(in alloc; "{front}{first}{middle}{second}{end}")?;
+        expect_told(rt, alloc, &text, *expected, &text)?;
+    }
+    Ok(())
+}

@@ -2,10 +2,8 @@
 //! have. The answers were worked out from the rules of the language.
 
 use crate::told::Told::{At, Fine};
-use crate::told::{Told, expect_told};
+use crate::told::{Told, expect_rows};
 use script_types::MeaningKind::{BadWindow, KindMismatch, NotAssigned, UnknownName};
-use std::alloc::Global;
-use std::process::Abort;
 use std::test::Fail;
 
 /// The entries of the table: a grid of each kind, and a number without a kind and one with a kind.
@@ -96,21 +94,7 @@ static STATEMENTS: [(&str, Told); 74] = [
     ("C = mapminimum(N);", At(1, KindMismatch)),
 ];
 
-// Statements of `initial` are told this.
-fn expect_answer(
-    rt: &impl Abort,
-    alloc: Global,
-    statements: &str,
-    expected: Told,
-) -> Result<(), Fail> {
-    let text = format!(in alloc; "binding {ENTRIES} areamap A; initial {statements}")?;
-    expect_told(rt, alloc, &text, expected, statements)
-}
-
 #[test]
 fn windows_areas_and_totals(rt: HostRuntime) -> Result<(), Fail> {
-    for (text, expected) in &STATEMENTS {
-        expect_answer(&rt, rt.alloc(), text, *expected)?;
-    }
-    Ok(())
+    expect_rows(&rt, rt.alloc(), ENTRIES, "initial", &STATEMENTS)
 }
