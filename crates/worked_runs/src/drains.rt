@@ -1,7 +1,8 @@
 //! Runs along drain directions: transports, neighbours, catchments and masks, and stages of `initial`. The files were worked
 //! out by hand from the rules of the operations.
 
-use crate::steps_files::{Case, File, expect_case};
+use crate::files::{File, PUT};
+use crate::runs::{Case, expect_cases};
 use std::test::Fail;
 
 /// A transport whose area map is the drain map.
@@ -270,32 +271,20 @@ static UNSOUND: [Case; 8] = [
 
 #[test]
 fn transports_along_drain_directions(rt: HostRuntime) -> Result<(), Fail> {
-    for case in &TRANSPORTS {
-        expect_case(&rt, rt.alloc(), case)?;
-    }
-    Ok(())
+    expect_cases(&rt, rt.alloc(), PUT, &TRANSPORTS)
 }
 
 #[test]
 fn cuts_drain_maps_between_stages(rt: HostRuntime) -> Result<(), Fail> {
-    for case in &MASKS {
-        expect_case(&rt, rt.alloc(), case)?;
-    }
-    Ok(())
+    expect_cases(&rt, rt.alloc(), PUT, &MASKS)
 }
 
 #[test]
 fn shares_drain_maps_with_steps(rt: HostRuntime) -> Result<(), Fail> {
-    for case in &STEPS {
-        expect_case(&rt, rt.alloc(), case)?;
-    }
-    Ok(())
+    expect_cases(&rt, rt.alloc(), PUT, &STEPS)
 }
 
 #[test]
 fn refuses_drain_maps_that_are_not_sound(rt: HostRuntime) -> Result<(), Fail> {
-    for case in &UNSOUND {
-        expect_case(&rt, rt.alloc(), case)?;
-    }
-    Ok(())
+    expect_cases(&rt, rt.alloc(), PUT, &UNSOUND)
 }

@@ -1,7 +1,7 @@
 //! Runs whose words and files alone decide that nothing is put: a row for each end, with its line and its status.
 
-use crate::files::{AREA, THREE, folder_of};
-use crate::runs::{end_of, expect_end, expect_puts};
+use crate::files::{File, INPUTS, PUT, THREE, folder_with};
+use crate::runs::{end_of, expect_case, expect_end, expect_puts};
 use lue_run::Ended;
 use outside_io::{CalmFolder, CalmSink};
 use std::alloc::Global;
@@ -9,13 +9,13 @@ use std::process::Abort;
 use std::test::Fail;
 
 /// A script, the status and the line.
-type Case = (&'static str, u8, &'static str);
+type Row = (&'static str, u8, &'static str);
 
 /// A name of 65 letters.
 const LONG_NAME: &str = "areamap r.asc; initial \
     AAAAAAAAAABBBBBBBBBBCCCCCCCCCCDDDDDDDDDDEEEEEEEEEEFFFFFFFFFFGGGGG = 1;";
 
-static SCRIPTS: [Case; 24] = [
+static SCRIPTS: [Row; 24] = [
     // the first fault of the text
     ("", 3, "script 1:1 end\n"),
     ("areamap r.asc; initial C = 1 $ 2;", 3, "script 1:30 byte\n"),
@@ -123,50 +123,48 @@ static SCRIPTS: [Case; 24] = [
     ),
 ];
 
-// A script ends so, and puts nothing.
-fn expect_refused(rt: &impl Abort, alloc: Global, case: &Case) -> Result<(), Fail> {
-    let mut folder = folder_of(alloc, case.0)?;
-    folder.hold(alloc, b"short.asc", AREA.as_bytes())?;
-    folder.hold(
-        alloc,
-        b"wide.asc",
-        b"ncols 4\nnrows 1\nxllcorner 0\nyllcorner 0\ncellsize 1\n1 2 3 4\n",
-    )?;
-    expect_end(rt, alloc, "plain m.mod", &mut folder, case.1, case.2)?;
-    expect_puts(rt, alloc, &folder, &[], case.2)
+/// What these scripts put.
+const NOTHING: &[File] = &[];
+
+// Each script ends so, and puts nothing.
+fn expect_refused(rt: &impl Abort, alloc: Global, rows: &[Row]) -> Result<(), Fail> {
+    for (script, answer, line) in rows {
+        let case = (*script, INPUTS, *answer, *line, NOTHING);
+        expect_case(rt, alloc, PUT, &case)?;
+    }
+    Ok(())
 }
 
 #[test]
 fn refuses_by_name_and_place(rt: HostRuntime) -> Result<(), Fail> {
-    for case in &SCRIPTS {
-        expect_refused(&rt, rt.alloc(), case)?;
-    }
-    Ok(())
+    expect_refused(&rt, rt.alloc(), &SCRIPTS)
 }
 
-// The text gives no command: nothing is read, and nothing is put.
-fn expect_usage(rt: &impl Abort, alloc: Global, text: &str) -> Result<(), Fail> {
-    let mut folder = folder_of(alloc, THREE)?;
-    folder.fail_on(vec![in alloc; 1]?);
-    expect_end(rt, alloc, text, &mut folder, 2, "usage\n")?;
-    expect_puts(rt, alloc, &folder, &[], text)
+/// Words that are no command.
+static OTHER_WORDS: [&str; 8] = [
+    "",
+    "plain",
+    "plain a/b",
+    "plain .mod",
+    "plain m.mod 1",
+    "run m.mod 1 1 1",
+    "make 7",
+    "--help",
+];
+
+// The texts give no command: nothing is read, and nothing is put.
+fn expect_usage(rt: &impl Abort, alloc: Global, texts: &[&str]) -> Result<(), Fail> {
+    for text in texts {
+        let mut folder = folder_with(alloc, THREE, INPUTS, 1)?;
+        expect_end(rt, alloc, text, &mut folder, 2, "usage\n")?;
+        expect_puts(rt, alloc, &folder, PUT, &[], text)?;
+    }
+    Ok(())
 }
 
 #[test]
 fn takes_no_other_words(rt: HostRuntime) -> Result<(), Fail> {
-    for text in [
-        "",
-        "plain",
-        "plain a/b",
-        "plain .mod",
-        "plain m.mod 1",
-        "run m.mod 1 1 1",
-        "make 7",
-        "--help",
-    ] {
-        expect_usage(&rt, rt.alloc(), text)?;
-    }
-    Ok(())
+    expect_usage(&rt, rt.alloc(), &OTHER_WORDS)
 }
 
 // A folder that holds more than a script may have.

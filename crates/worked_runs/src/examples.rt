@@ -1,7 +1,7 @@
 //! The small examples, made by `scripts/examples-in-tests` from the folders of examples/, which the built program runs too.
 
-use crate::runs::expect_end;
-use crate::steps_files::{File, expect_files, folder_with};
+use crate::files::{File, PUT, folder_with};
+use crate::runs::{expect_end, expect_puts};
 use std::alloc::Global;
 use std::process::Abort;
 use std::test::Fail;
@@ -150,10 +150,9 @@ static STORM_RUNOFF: Example = (
 // The run of an example ends as it says, and puts what it says.
 fn expect_example(rt: &impl Abort, alloc: Global, example: &Example) -> Result<(), Fail> {
     let (words, script, files, answer, line, puts) = *example;
-    let mut folder = folder_with(alloc, script, files)?;
+    let mut folder = folder_with(alloc, script, files, 0)?;
     expect_end(rt, alloc, words, &mut folder, answer, line)?;
-    expect_files(rt, alloc, &folder, puts, words)?;
-    Ok(())
+    expect_puts(rt, alloc, &folder, PUT, puts, words)
 }
 
 #[test]

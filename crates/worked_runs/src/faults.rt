@@ -1,7 +1,8 @@
-//! Runs of a script with three inputs and three outputs in which the folder, the sink or the memory fails, at each call
-//! in turn.
+//! Runs in which the folder, the sink or the memory fails, at each call in turn: over a script with three inputs and three
+//! outputs, over two steps, with a table, a series, a stack and time series, and over stages and a step, with a drain map,
+//! windows and areas.
 
-use crate::files::{Row, THREE_PUTS, failing_folder};
+use crate::files::{File, INPUTS, PUT, PUT_ELSEWHERE, THREE, THREE_PUTS, folder_with};
 use crate::runs::{end_of, expect_end, expect_puts};
 use crate::scant::ScantFolder;
 use lue_run::{Ended, status};
@@ -10,102 +11,190 @@ use std::alloc::Global;
 use std::process::Abort;
 use std::test::Fail;
 
-/// How many calls the folder gets: the script and three inputs are read, and three maps put.
-const CALLS: u64 = 7;
+/// The stack is used twice, and read once in a step.
+pub const SCRIPT: &str =
+    "binding P = rain; Tab = t.tbl; R = r.tss; Id = id.asc : nominal; areamap Id; timer 1 2 1; \
+    initial report B = lookupscalar(Tab, Id); \
+    dynamic Wet = timeinputscalar(R, Id) + timeinput(P); report S = Wet + B; report T = timeoutput(Id, S); \
+    report W = cover(Wet, timeinput(P)); report U = timeoutput(Id, B);";
 
-// The maps that are put before that many calls are done.
-fn puts_before(call: u64) -> &'static [Row] {
-    match call {
-        0..=5 => &[],
-        6 => &THREE_PUTS[..1],
-        7 => &THREE_PUTS[..2],
-        _ => &THREE_PUTS,
-    }
+/// The files of the script.
+pub const FILES: &[File] = &[
+    ("id.asc", "1 2"),
+    ("t.tbl", "1 10\n2 20\n"),
+    ("r.tss", "1 1 2\n2 3 4\n"),
+    ("rain0000.001", "0.5 0.25"),
+    ("rain0000.002", "0 -1"),
+];
+
+/// What is put, in order.
+const PUTS: &[File] = &[
+    ("B", "10 20"),
+    ("S0000000.001", "11.5 22.25"),
+    ("W0000000.001", "1.5 2.25"),
+    ("S0000000.002", "13 23"),
+    ("W0000000.002", "3 3"),
+    (
+        "T",
+        "timeseries scalar\n3\ntimestep\n1\n2\n1 11.5 22.25\n2 13 23\n",
+    ),
+    (
+        "U",
+        "timeseries scalar\n3\ntimestep\n1\n2\n1 10 20\n2 10 20\n",
+    ),
+];
+
+/// A call of the folder that fails: its number, how many files are put before it, the status and the line.
+type Call = (u64, usize, u8, &'static str);
+
+/// A script, its files, what is put and below which head, and its calls with the one past the last.
+type Model = (
+    &'static str,
+    &'static [File],
+    &'static str,
+    &'static [File],
+    &'static [Call],
+);
+
+/// The calls of the script with three inputs and three outputs.
+const THREE_CALLS: &[Call] = &[
+    (1, 0, 7, "read fault m.mod\n"),
+    (2, 0, 7, "read fault r.asc\n"),
+    (3, 0, 7, "read fault n.asc\n"),
+    (4, 0, 7, "read fault a.asc\n"),
+    (5, 0, 8, "write fault wet.asc\n"),
+    (6, 1, 8, "write fault Class\n"),
+    (7, 2, 8, "write fault Twice\n"),
+    (8, 3, 0, "done files=3 steps=0\n"),
+];
+
+/// The calls of the script over steps.
+const CALLS: &[Call] = &[
+    (1, 0, 7, "read fault m.mod\n"),
+    (2, 0, 7, "read fault id.asc\n"),
+    (3, 0, 7, "read fault t.tbl\n"),
+    (4, 0, 7, "read fault r.tss\n"),
+    (5, 0, 8, "write fault B\n"),
+    (6, 1, 7, "read fault rain0000.001\n"),
+    (7, 1, 8, "write fault S0000000.001\n"),
+    (8, 2, 8, "write fault W0000000.001\n"),
+    (9, 3, 7, "read fault rain0000.002\n"),
+    (10, 3, 8, "write fault S0000000.002\n"),
+    (11, 4, 8, "write fault W0000000.002\n"),
+    (12, 5, 8, "write fault T\n"),
+    (13, 6, 8, "write fault U\n"),
+    (14, 7, 0, "done files=7 steps=2\n"),
+];
+
+static MODELS: [Model; 3] = [
+    // three inputs and three outputs of `initial`
+    (THREE, INPUTS, PUT_ELSEWHERE, THREE_PUTS, THREE_CALLS),
+    (SCRIPT, FILES, PUT, PUTS, CALLS),
+    // a drain map among the inputs, and one that is computed and put
+    (
+        "binding A = a.asc; L = l.asc : ldd; B = b.asc; areamap A; timer 1 1 1; initial W = windowtotal(B, 3); \
+            report K = lddmask(L, W >= 3); report C = areaarea(boolean(B)); dynamic report Q = accuflux(K, A);",
+        &[("a.asc", "1 1 1"), ("l.asc", "6 6 5"), ("b.asc", "1 0 3")],
+        PUT,
+        &[
+            ("K", "1e31 6 5"),
+            ("C", "2 1 2"),
+            ("Q0000000.001", "1e31 1 2"),
+        ],
+        &[
+            (1, 0, 7, "read fault m.mod\n"),
+            (2, 0, 7, "read fault a.asc\n"),
+            (3, 0, 7, "read fault l.asc\n"),
+            (4, 0, 7, "read fault b.asc\n"),
+            (5, 0, 8, "write fault K\n"),
+            (6, 1, 8, "write fault C\n"),
+            (7, 2, 8, "write fault Q0000000.001\n"),
+            (8, 3, 0, "done files=3 steps=1\n"),
+        ],
+    ),
+];
+
+// What is put before that many files are.
+fn puts_before(model: &Model, puts: usize) -> &'static [File] {
+    let (before, _) = model.3.split_at(puts.min(model.3.len()));
+    before
 }
 
 // A run in which this call of the folder fails ends so.
-fn expect_fault(
-    rt: &impl Abort,
-    alloc: Global,
-    call: u64,
-    answer: u8,
-    line: &str,
-) -> Result<(), Fail> {
-    let mut folder = failing_folder(alloc, call)?;
+fn expect_fault(rt: &impl Abort, alloc: Global, model: &Model, row: &Call) -> Result<(), Fail> {
+    let (call, puts, answer, line) = *row;
+    let mut folder = folder_with(alloc, model.0, model.1, call)?;
     expect_end(rt, alloc, "plain m.mod", &mut folder, answer, line)?;
-    expect_puts(rt, alloc, &folder, puts_before(call), line)
-}
-
-#[test]
-fn tells_the_call_that_fails(rt: HostRuntime) -> Result<(), Fail> {
-    for (call, answer, line) in [
-        (1, 7, "read fault m.mod\n"),
-        (2, 7, "read fault r.asc\n"),
-        (3, 7, "read fault n.asc\n"),
-        (4, 7, "read fault a.asc\n"),
-        (5, 8, "write fault wet.asc\n"),
-        (6, 8, "write fault Class\n"),
-        (7, 8, "write fault Twice\n"),
-        (8, 0, "done files=3 steps=0\n"),
-    ] {
-        expect_fault(&rt, rt.alloc(), call, answer, line)?;
-    }
-    Ok(())
+    expect_puts(rt, alloc, &folder, model.2, puts_before(model, puts), line)
 }
 
 // A run in which this call of the folder fails, and the write of the line too, tells the status that stood there.
-fn expect_unwritten(rt: &impl Abort, alloc: Global, call: u64, stood: u8) -> Result<(), Fail> {
-    let mut folder = failing_folder(alloc, call)?;
+fn expect_unwritten(rt: &impl Abort, alloc: Global, model: &Model, row: &Call) -> Result<(), Fail> {
+    let (call, puts, stood, line) = *row;
+    let mut folder = folder_with(alloc, model.0, model.1, call)?;
     let mut out = MemSink::new();
     out.fail_on(vec![in alloc; 1]?);
     let end = end_of(alloc, "plain m.mod", &mut folder, &mut out)?;
-    assert_eq!(rt; status(&end), 9, "at call {call}");
-    let Ended::OutFault { instead } = end else {
-        return Err(Fail::new("another answer"));
-    };
-    assert_eq!(rt; instead, stood, "at call {call}");
-    assert!(rt; out.bytes().is_empty(), "a line at call {call}");
-    expect_puts(rt, alloc, &folder, puts_before(call), "no line")
+    assert_eq!(rt; instead_of(&end), Some(stood), "no line at {line}");
+    assert_eq!(rt;
+        (status(&end), out.bytes().len()),
+        (9, 0),
+        "no line at {line}"
+    );
+    expect_puts(rt, alloc, &folder, model.2, puts_before(model, puts), line)
 }
 
-#[test]
-fn tells_a_line_that_is_not_written(rt: HostRuntime) -> Result<(), Fail> {
-    for (call, stood) in [(1, 7), (4, 7), (5, 8), (7, 8), (8, 0)] {
-        expect_unwritten(&rt, rt.alloc(), call, stood)?;
+// The status in place of which a run tells that its line is not written.
+fn instead_of(end: &Ended) -> Option<u8> {
+    match end {
+        Ended::OutFault { instead } => Some(*instead),
+        _ => None,
     }
-    Ok(())
 }
 
-// A run in which this call finds no memory ends so and writes nothing, whether the sink works or not.
-fn expect_no_memory(
-    rt: &impl Abort,
-    alloc: Global,
-    call: u64,
-    sink_fails: u64,
-) -> Result<(), Fail> {
-    let mut folder = ScantFolder::new(failing_folder(alloc, 0)?, call);
+// A run in which this call finds no memory ends so and writes nothing, whether the sink works or not; the call past the last
+// is not made.
+fn expect_no_memory(rt: &impl Abort, alloc: Global, model: &Model, row: &Call) -> Result<(), Fail> {
+    let (call, puts, stands, line) = *row;
+    let (answer, written, made, sink_fails): (u8, &str, u64, u64) = if stands == 0 {
+        (0, line, call.saturating_sub(1), 0)
+    } else {
+        (10, "", call, call % 2)
+    };
+    let mut folder = ScantFolder::new(folder_with(alloc, model.0, model.1, 0)?, call);
     let mut out = MemSink::new();
     out.fail_on(vec![in alloc; sink_fails]?);
     let end = end_of(alloc, "plain m.mod", &mut folder, &mut out)?;
-    assert_eq!(rt; status(&end), 10, "at call {call}");
-    assert!(rt; out.bytes().is_empty(), "a line at call {call}");
-    expect_puts(rt, alloc, &folder.folder, puts_before(call), "no memory")
+    assert_eq!(rt; out.bytes(), written.as_bytes(), "no memory at {line}");
+    assert_eq!(rt;
+        (status(&end), folder.calls),
+        (answer, made),
+        "no memory at {line}"
+    );
+    expect_puts(
+        rt,
+        alloc,
+        &folder.folder,
+        model.2,
+        puts_before(model, puts),
+        line,
+    )
 }
 
-#[test]
-fn ends_without_memory_and_without_a_line(rt: HostRuntime) -> Result<(), Fail> {
-    for call in 1..CALLS + 1 {
-        expect_no_memory(&rt, rt.alloc(), call, call % 2)?;
+// Each call of a script fails in turn.
+fn expect_model(rt: &impl Abort, alloc: Global, model: &Model) -> Result<(), Fail> {
+    for row in model.4 {
+        expect_fault(rt, alloc, model, row)?;
+        expect_unwritten(rt, alloc, model, row)?;
+        expect_no_memory(rt, alloc, model, row)?;
     }
     Ok(())
 }
 
 #[test]
-fn takes_no_more_calls_than_it_needs(rt: HostRuntime) -> Result<(), Fail> {
-    let mut folder = ScantFolder::new(failing_folder(rt.alloc(), 0)?, 0);
-    let line = "done files=3 steps=0\n";
-    expect_end(&rt, rt.alloc(), "plain m.mod", &mut folder, 0, line)?;
-    expect_puts(&rt, rt.alloc(), &folder.folder, &THREE_PUTS, line)?;
-    assert_eq!(rt; folder.calls, CALLS);
+fn each_call_fails_in_turn(rt: HostRuntime) -> Result<(), Fail> {
+    for model in &MODELS {
+        expect_model(&rt, rt.alloc(), model)?;
+    }
     Ok(())
 }

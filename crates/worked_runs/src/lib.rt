@@ -27,8 +27,4 @@ mod scripts;
 #[cfg(test)]
 mod steps;
 #[cfg(test)]
-mod steps_faults;
-#[cfg(test)]
-mod steps_files;
-#[cfg(test)]
 mod weak;

@@ -1,6 +1,7 @@
 //! Runs with windows, areas and map totals. The files were worked out by hand from the rules of the operations.
 
-use crate::steps_files::{Case, expect_case};
+use crate::files::PUT;
+use crate::runs::{Case, expect_cases};
 use std::test::Fail;
 
 /// A map of three rows.
@@ -154,16 +155,10 @@ static ENDS: [Case; 5] = [
 
 #[test]
 fn computes_over_windows_and_areas(rt: HostRuntime) -> Result<(), Fail> {
-    for case in &VALUES {
-        expect_case(&rt, rt.alloc(), case)?;
-    }
-    Ok(())
+    expect_cases(&rt, rt.alloc(), PUT, &VALUES)
 }
 
 #[test]
 fn judges_sums_by_their_cells_alone(rt: HostRuntime) -> Result<(), Fail> {
-    for case in &ENDS {
-        expect_case(&rt, rt.alloc(), case)?;
-    }
-    Ok(())
+    expect_cases(&rt, rt.alloc(), PUT, &ENDS)
 }

@@ -1,10 +1,9 @@
 //! Scripts that other runners run than the plain one.
 
-use crate::files::{THREE_PUTS, failing_folder};
+use crate::faults::{FILES, SCRIPT};
+use crate::files::{File, INPUTS, PUT_ELSEWHERE, THREE, THREE_PUTS, folder_with};
 use crate::noting::{Asked, Note, NotingRunner};
 use crate::runs::expect_puts;
-use crate::steps_faults::{FILES, SCRIPT};
-use crate::steps_files::{File, folder_with};
 use crate::weak::WeakRunner;
 use flow_task::BaseKit;
 use outside_io::MemFolder;
@@ -24,10 +23,10 @@ fn weak_end(alloc: Global, folder: &mut MemFolder) -> Result<SessionEnd, Fail> {
 
 #[test]
 fn puts_nothing_where_the_runner_has_no_memory(rt: HostRuntime) -> Result<(), Fail> {
-    let mut folder = failing_folder(rt.alloc(), 0)?;
+    let mut folder = folder_with(rt.alloc(), THREE, INPUTS, 0)?;
     let end = weak_end(rt.alloc(), &mut folder)?;
     assert!(rt; matches!(end, SessionEnd::Memory));
-    expect_puts(&rt, rt.alloc(), &folder, &[], "no memory")
+    expect_puts(&rt, rt.alloc(), &folder, PUT_ELSEWHERE, &[], "no memory")
 }
 
 // The end of the script by a runner that notes what it is asked, and its notes.
@@ -42,7 +41,7 @@ fn noted_end(alloc: Global, folder: &mut MemFolder) -> Result<(SessionEnd, Vec<N
 
 #[test]
 fn asks_its_runner_once(rt: HostRuntime) -> Result<(), Fail> {
-    let mut folder = failing_folder(rt.alloc(), 0)?;
+    let mut folder = folder_with(rt.alloc(), THREE, INPUTS, 0)?;
     let (end, notes) = noted_end(rt.alloc(), &mut folder)?;
     assert!(rt; matches!(end, SessionEnd::Done { files: 3, steps: 0 }));
     let note = Note {
@@ -54,16 +53,16 @@ fn asks_its_runner_once(rt: HostRuntime) -> Result<(), Fail> {
         stacks: 0,
     };
     assert_eq!(rt; notes.as_slice(), [note].as_slice());
-    expect_puts(&rt, rt.alloc(), &folder, &THREE_PUTS, "noted")
+    expect_puts(&rt, rt.alloc(), &folder, PUT_ELSEWHERE, THREE_PUTS, "noted")
 }
 
 #[test]
 fn asks_no_runner_before_all_is_read(rt: HostRuntime) -> Result<(), Fail> {
-    let mut folder = failing_folder(rt.alloc(), 4)?;
+    let mut folder = folder_with(rt.alloc(), THREE, INPUTS, 4)?;
     let (end, notes) = noted_end(rt.alloc(), &mut folder)?;
     assert!(rt; matches!(end, SessionEnd::FolderReadFault(_)));
     assert!(rt; notes.is_empty());
-    expect_puts(&rt, rt.alloc(), &folder, &[], "read fault")
+    expect_puts(&rt, rt.alloc(), &folder, PUT_ELSEWHERE, &[], "read fault")
 }
 
 // What the runner is asked for this span over one row of two cells.
@@ -80,7 +79,7 @@ fn span_note(asked: Asked, stacks: usize) -> Note {
 
 #[test]
 fn asks_its_runner_for_each_step(rt: HostRuntime) -> Result<(), Fail> {
-    let mut folder = folder_with(rt.alloc(), SCRIPT, FILES)?;
+    let mut folder = folder_with(rt.alloc(), SCRIPT, FILES, 0)?;
     let (end, notes) = noted_end(rt.alloc(), &mut folder)?;
     assert!(rt; matches!(end, SessionEnd::Done { files: 7, steps: 2 }));
     let expected = [
@@ -159,7 +158,7 @@ fn expect_asked(rt: &impl Abort, notes: &[Note], case: &Stages) {
 #[test]
 fn asks_its_runner_for_each_stage(rt: HostRuntime) -> Result<(), Fail> {
     for case in &STAGES {
-        let mut folder = folder_with(rt.alloc(), case.0, &ROW)?;
+        let mut folder = folder_with(rt.alloc(), case.0, &ROW, 0)?;
         let (_, notes) = noted_end(rt.alloc(), &mut folder)?;
         expect_asked(&rt, &notes, case);
     }

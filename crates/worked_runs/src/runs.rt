@@ -1,12 +1,21 @@
 //! What the tests share: words, a run, and the comparing. No helper has a clause, so that a test sees few facts.
 
-use crate::files::{Row, put_text};
+use crate::files::{File, folder_with, text_of};
 use cell_values::Word;
 use lue_run::{Ended, lue_plain, status};
 use outside_io::{Folder, MemFolder, MemSink, Sink};
 use std::alloc::Global;
 use std::process::Abort;
 use std::test::Fail;
+
+/// A script, the files that are there, the status, the line, and what is put, in order.
+pub type Case = (
+    &'static str,
+    &'static [File],
+    u8,
+    &'static str,
+    &'static [File],
+);
 
 /// The words of a text, split at spaces.
 pub(crate) fn words_of(alloc: Global, text: &str) -> Result<Vec<Word>, Fail> {
@@ -44,41 +53,69 @@ pub(crate) fn expect_end<F: Folder>(
     Ok(())
 }
 
-// The put of this number is that of this map.
+// The put of this number is that of this file.
 fn expect_put(
     rt: &impl Abort,
     alloc: Global,
     folder: &MemFolder,
     number: u64,
-    put: &Row,
+    head: &str,
+    put: &File,
 ) -> Result<(), Fail> {
+    let (name, text) = *put;
+    let text = text_of(alloc, head, text)?;
     assert!(rt; number < folder.put_count(), "no put {number}");
     assert_eq!(rt;
         folder.put_name(number),
-        put.0.as_bytes(),
+        name.as_bytes(),
         "the name of put {number}"
     );
-    let text = put_text(alloc, put.1)?;
     assert_eq!(rt;
         folder.put_bytes(number),
-        text.as_slice(),
-        "the bytes of {}",
-        put.0
+        text.as_bytes(),
+        "the bytes of {name}"
     );
     Ok(())
 }
 
-/// These maps were put, in order, and no others.
+/// These files were put, in order, and no others; a row is written below this head.
 pub(crate) fn expect_puts(
     rt: &impl Abort,
     alloc: Global,
     folder: &MemFolder,
-    puts: &[Row],
+    head: &str,
+    puts: &[File],
     row: &str,
 ) -> Result<(), Fail> {
     assert_eq!(rt; folder.put_count(), puts.len() as u64, "puts at {row}");
     for (i, put) in puts.iter().enumerate() {
-        expect_put(rt, alloc, folder, i as u64, put)?;
+        expect_put(rt, alloc, folder, i as u64, head, put)?;
+    }
+    Ok(())
+}
+
+/// A script ends so, over its files.
+pub(crate) fn expect_case(
+    rt: &impl Abort,
+    alloc: Global,
+    head: &str,
+    case: &Case,
+) -> Result<(), Fail> {
+    let (script, files, answer, line, puts) = *case;
+    let mut folder = folder_with(alloc, script, files, 0)?;
+    expect_end(rt, alloc, "plain m.mod", &mut folder, answer, line)?;
+    expect_puts(rt, alloc, &folder, head, puts, script)
+}
+
+/// Each script ends so, over its files.
+pub(crate) fn expect_cases(
+    rt: &impl Abort,
+    alloc: Global,
+    head: &str,
+    cases: &[Case],
+) -> Result<(), Fail> {
+    for case in cases {
+        expect_case(rt, alloc, head, case)?;
     }
     Ok(())
 }

@@ -1,15 +1,15 @@
 //! Scripts that come to their end, and what they put. The cells were worked out by hand from the rules of the operations.
 
-use crate::files::{Row, folder_of};
-use crate::runs::{expect_end, expect_puts};
+use crate::files::{File, INPUTS, PUT_ELSEWHERE};
+use crate::runs::expect_case;
 use std::alloc::Global;
 use std::process::Abort;
 use std::test::Fail;
 
 /// A script, the line of its end, and the maps that it puts, in order.
-type Case = (&'static str, &'static str, &'static [Row]);
+type Script = (&'static str, &'static str, &'static [File]);
 
-static CASES: [Case; 6] = [
+static SCRIPTS: [Script; 6] = [
     // a name has the value that the last statement above gave it
     (
         "binding Rain = r.asc; B = b.asc; areamap Rain; \
@@ -58,17 +58,16 @@ static CASES: [Case; 6] = [
     ),
 ];
 
-// A script comes to its end so.
-fn expect_case(rt: &impl Abort, alloc: Global, case: &Case) -> Result<(), Fail> {
-    let mut folder = folder_of(alloc, case.0)?;
-    expect_end(rt, alloc, "plain m.mod", &mut folder, 0, case.1)?;
-    expect_puts(rt, alloc, &folder, case.2, case.0)
+// The scripts come to their ends so.
+fn expect_scripts(rt: &impl Abort, alloc: Global, rows: &[Script]) -> Result<(), Fail> {
+    for (script, line, puts) in rows {
+        let case = (*script, INPUTS, 0u8, *line, *puts);
+        expect_case(rt, alloc, PUT_ELSEWHERE, &case)?;
+    }
+    Ok(())
 }
 
 #[test]
 fn puts_what_the_statements_report(rt: HostRuntime) -> Result<(), Fail> {
-    for case in &CASES {
-        expect_case(&rt, rt.alloc(), case)?;
-    }
-    Ok(())
+    expect_scripts(&rt, rt.alloc(), &SCRIPTS)
 }

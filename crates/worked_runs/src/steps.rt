@@ -1,8 +1,8 @@
 //! Runs over steps: sections, tables, series, stacks and samples. The files were worked out by hand from the rules of the
 //! language and of a run.
 
-use crate::runs::expect_end;
-use crate::steps_files::{Case, expect_case, folder_with};
+use crate::files::{PUT, folder_with};
+use crate::runs::{Case, expect_cases, expect_end};
 use std::test::Fail;
 
 /// A stack that is read and written.
@@ -523,56 +523,38 @@ static FAULTS: [Case; 8] = [
 
 #[test]
 fn reads_stacks_at_their_steps(rt: HostRuntime) -> Result<(), Fail> {
-    for case in &STACKS {
-        expect_case(&rt, rt.alloc(), case)?;
-    }
-    Ok(())
+    expect_cases(&rt, rt.alloc(), PUT, &STACKS)
 }
 
 #[test]
 fn looks_up_and_samples(rt: HostRuntime) -> Result<(), Fail> {
-    for case in &SAMPLES {
-        expect_case(&rt, rt.alloc(), case)?;
-    }
-    Ok(())
+    expect_cases(&rt, rt.alloc(), PUT, &SAMPLES)
 }
 
 #[test]
 fn carries_names_and_puts_series(rt: HostRuntime) -> Result<(), Fail> {
-    for case in &SERIES {
-        expect_case(&rt, rt.alloc(), case)?;
-    }
-    Ok(())
+    expect_cases(&rt, rt.alloc(), PUT, &SERIES)
 }
 
 #[test]
 fn keeps_the_rows_of_settled_steps(rt: HostRuntime) -> Result<(), Fail> {
-    for case in &SECTIONS {
-        expect_case(&rt, rt.alloc(), case)?;
-    }
-    Ok(())
+    expect_cases(&rt, rt.alloc(), PUT, &SECTIONS)
 }
 
 #[test]
 fn tells_the_first_end_of_a_step(rt: HostRuntime) -> Result<(), Fail> {
-    for case in &OVERFLOWS {
-        expect_case(&rt, rt.alloc(), case)?;
-    }
-    Ok(())
+    expect_cases(&rt, rt.alloc(), PUT, &OVERFLOWS)
 }
 
 #[test]
 fn tells_faulty_tables_and_series(rt: HostRuntime) -> Result<(), Fail> {
-    for case in &FAULTS {
-        expect_case(&rt, rt.alloc(), case)?;
-    }
-    Ok(())
+    expect_cases(&rt, rt.alloc(), PUT, &FAULTS)
 }
 
 #[test]
 fn names_its_last_file_by_the_end_of_the_timer(rt: HostRuntime) -> Result<(), Fail> {
     let script = "binding A = a.asc; areamap A; timer 1 999 1; dynamic report abcdefgh = A;";
-    let mut folder = folder_with(rt.alloc(), script, &[("a.asc", "1")])?;
+    let mut folder = folder_with(rt.alloc(), script, &[("a.asc", "1")], 0)?;
     expect_end(
         &rt,
         rt.alloc(),
