@@ -22,7 +22,7 @@ use Rattle.map_meaning.specs.declared.program.Role.TheVariants.{Grid}
 use Rattle.map_meaning.specs.declared.tree.Statement.{Statement}
 use Rattle.map_meaning.specs.declared.tree.Tree.TheVariants as tree
 use Rattle.map_meaning.specs.Evaluation.{Done, drain_codes, nothing_done, staged_values}
-use Rattle.map_meaning.specs.Examples.{map_named, unassigned, whole_scalar}
+use Rattle.map_meaning.specs.Examples.{below_zero, map_named, unassigned, whole_scalar}
 use Rattle.map_meaning.specs.Rules.{Setting, no_series, no_table, outcome_of}
 use Rattle.map_meaning.specs.Scenes.{Scene}
 use Rattle.map_meaning.specs.Sections.{section_value}
@@ -56,9 +56,9 @@ one_to_four = whole_scalars (1 ∷ 2 ∷ 3 ∷ 4 ∷ [])
 abbrev pub two_of_three : List Cell
 two_of_three = Val (pos 1) ∷ Val (pos 1) ∷ Mv ∷ []
 
--- 3, and before it two cells without a value
+-- 3000, in millionths beyond all classes, and before it two cells without a value
 abbrev pub last_of_three : List Cell
-last_of_three = Mv ∷ Mv ∷ whole_scalar 3 ∷ []
+last_of_three = Mv ∷ Mv ∷ whole_scalar 3000 ∷ []
 
 -- no cell of three
 abbrev pub none_of_three : List Cell
@@ -80,12 +80,16 @@ two_in_turn = cells_of_numbers (1 ∷ 2 ∷ 1 ∷ 2 ∷ [])
 pub record RegionExamples : Type 0 where
   -- the windows of three cells in a row, as far as the row goes
   pub window_total : row_of_cells op.WindowTotal (Scalar ∷ []) 3 (one_to_four ∷ []) 4 ≡ whole_scalars (3 ∷ 6 ∷ 9 ∷ 7 ∷ [])
-  -- over 1 2 3 and, below them, 4 5 6
-  pub window_rows : square_of_cells op.WindowTotal (Scalar ∷ []) 3 (whole_scalars (1 ∷ 2 ∷ 3 ∷ 4 ∷ 5 ∷ 6 ∷ []) ∷ [])
-      ≡ whole_scalars (12 ∷ 21 ∷ 16 ∷ 12 ∷ 21 ∷ 16 ∷ [])
+  -- over 1000 2000 3000 and, below them, 4000 5000 6000
+  pub window_rows : square_of_cells op.WindowTotal (Scalar ∷ []) 3
+      (whole_scalars (1000 ∷ 2000 ∷ 3000 ∷ 4000 ∷ 5000 ∷ 6000 ∷ []) ∷ [])
+      ≡ whole_scalars (12000 ∷ 21000 ∷ 16000 ∷ 12000 ∷ 21000 ∷ 16000 ∷ [])
   -- values that are missing do not count, nor does it matter whether the one in the middle is
   pub window_average : row_of_cells op.WindowAverage (Scalar ∷ []) 3 (with_a_gap ∷ []) 4
       ≡ Val (pos 3500000) ∷ Val (pos 3500000) ∷ whole_scalar 3 ∷ whole_scalar 4 ∷ []
+  -- of millionths -1, 0, 1 and 0: a half is rounded away from 0, and a third to 0
+  pub window_rounded : row_of_cells op.WindowAverage (Scalar ∷ []) 3 ((below_zero 1 ∷ Val (pos 0) ∷ Val (pos 1) ∷ Val (pos 0) ∷ []) ∷ []) 4
+      ≡ below_zero 1 ∷ Val (pos 0) ∷ Val (pos 0) ∷ Val (pos 1) ∷ []
   pub window_minimum : row_of_cells op.WindowMinimum (Scalar ∷ []) 3 (with_a_gap ∷ []) 4 ≡ whole_scalars (2 ∷ 2 ∷ 2 ∷ 4 ∷ [])
   pub window_maximum : row_of_cells op.WindowMaximum (Scalar ∷ []) 3 (with_a_gap ∷ []) 4 ≡ whole_scalars (5 ∷ 5 ∷ 4 ∷ 4 ∷ [])
   pub window_diversity : row_of_cells op.WindowDiversity (Nominal ∷ []) 3 (cells_of_numbers (1 ∷ 1 ∷ 2 ∷ 3 ∷ []) ∷ []) 4
@@ -95,10 +99,10 @@ pub record RegionExamples : Type 0 where
   -- of classes that are as frequent the least counts
   pub window_majority : row_of_cells op.WindowMajority (Nominal ∷ []) 3 (cells_of_numbers (2 ∷ 1 ∷ 2 ∷ 1 ∷ []) ∷ []) 4
       ≡ cells_of_numbers (1 ∷ 2 ∷ 1 ∷ 1 ∷ [])
-  -- 2.5 in the two cells of class 1, and 5 in that of class 2
+  -- two thirds in the three cells of class 1, and 5 in that of class 2
   pub area_average : row_of_cells op.AreaAverage (Scalar ∷ Nominal ∷ []) 0
-      (whole_scalars (1 ∷ 5 ∷ 4 ∷ []) ∷ cells_of_numbers (1 ∷ 2 ∷ 1 ∷ []) ∷ []) 3
-      ≡ Val (pos 2500000) ∷ whole_scalar 5 ∷ Val (pos 2500000) ∷ []
+      (whole_scalars (1 ∷ 5 ∷ 0 ∷ 1 ∷ []) ∷ cells_of_numbers (1 ∷ 2 ∷ 1 ∷ 1 ∷ []) ∷ []) 4
+      ≡ Val (pos 666667) ∷ whole_scalar 5 ∷ Val (pos 666667) ∷ Val (pos 666667) ∷ []
   -- a cell without a value has what its class has
   pub area_minimum : row_of_cells op.AreaMinimum (Scalar ∷ Nominal ∷ []) 0 (last_missing ∷ two_in_turn ∷ []) 4
       ≡ whole_scalars (1 ∷ 5 ∷ 1 ∷ 5 ∷ [])
@@ -109,15 +113,18 @@ pub record RegionExamples : Type 0 where
   pub area_diversity : row_of_cells op.AreaDiversity (Nominal ∷ Nominal ∷ []) 0
       (cells_of_numbers (7 ∷ 7 ∷ 8 ∷ 7 ∷ []) ∷ cells_of_numbers (1 ∷ 2 ∷ 2 ∷ 2 ∷ []) ∷ []) 4 ≡ whole_scalars (1 ∷ 2 ∷ 2 ∷ 2 ∷ [])
   pub area_majority : row_of_cells op.AreaMajority (Nominal ∷ Nominal ∷ []) 0
-      (cells_of_numbers (7 ∷ 9 ∷ 8 ∷ 9 ∷ 8 ∷ []) ∷ cells_of_numbers (1 ∷ 2 ∷ 2 ∷ 2 ∷ 2 ∷ []) ∷ []) 5
+      (cells_of_numbers (7 ∷ 8 ∷ 9 ∷ 8 ∷ 9 ∷ []) ∷ cells_of_numbers (1 ∷ 2 ∷ 2 ∷ 2 ∷ 2 ∷ []) ∷ []) 5
       ≡ cells_of_numbers (7 ∷ 8 ∷ 8 ∷ 8 ∷ 8 ∷ [])
   -- an area without a value has no total, and the cell without a class is in no area
   pub area_total : row_of_cells op.AreaTotal (Scalar ∷ Nominal ∷ []) 0 (last_of_three ∷ two_of_three ∷ []) 3 ≡ none_of_three
   pub area_size : row_of_cells op.AreaArea (Nominal ∷ []) 0 (two_of_three ∷ []) 3 ≡ whole_scalar 2 ∷ whole_scalar 2 ∷ Mv ∷ []
   -- a total of the map stands at each place
-  pub map_total : row_of_cells op.MapTotal (Scalar ∷ []) 0 (last_of_three ∷ []) 3 ≡ whole_scalars (3 ∷ 3 ∷ 3 ∷ [])
-  pub map_minimum : row_of_cells op.MapMinimum (Scalar ∷ []) 0 (with_a_gap ∷ []) 4 ≡ whole_scalars (2 ∷ 2 ∷ 2 ∷ 2 ∷ [])
-  pub map_maximum : row_of_cells op.MapMaximum (Scalar ∷ []) 0 (with_a_gap ∷ []) 4 ≡ whole_scalars (5 ∷ 5 ∷ 5 ∷ 5 ∷ [])
+  pub map_total : row_of_cells op.MapTotal (Scalar ∷ []) 0 (last_of_three ∷ []) 3 ≡ whole_scalars (3000 ∷ 3000 ∷ 3000 ∷ [])
+  -- the extreme stands last
+  pub map_minimum : row_of_cells op.MapMinimum (Scalar ∷ []) 0 ((whole_scalar 5 ∷ whole_scalar 3 ∷ Mv ∷ whole_scalar 2 ∷ []) ∷ []) 4
+      ≡ whole_scalars (2 ∷ 2 ∷ 2 ∷ 2 ∷ [])
+  pub map_maximum : row_of_cells op.MapMaximum (Scalar ∷ []) 0 ((whole_scalar 2 ∷ Mv ∷ whole_scalar 4 ∷ whole_scalar 5 ∷ []) ∷ []) 4
+      ≡ whole_scalars (5 ∷ 5 ∷ 5 ∷ 5 ∷ [])
 
 -- ---- drain directions
 

@@ -395,6 +395,7 @@ returns-clause-regions c = record {
   window_total = refl;
   window_rows = refl;
   window_average = refl;
+  window_rounded = refl;
   window_minimum = refl;
   window_maximum = refl;
   window_diversity = refl;
