@@ -6,9 +6,7 @@ use Rattle.text_base.proofs.Callers.{some_is}
 use Rattle.script_syntax.specs.declared.token.Sign.TheVariants.{Plus, Minus}
 use Rattle.script_syntax.specs.declared.token.Operator.{Operator}
 use Rattle.script_syntax.specs.declared.token.Operator.TheVariants as operators
-use Rattle.script_syntax.specs.declared.token.Key.{Key}
 use Rattle.script_syntax.specs.declared.token.Key.TheVariants as keys
-use Rattle.script_syntax.specs.declared.token.Mark.{Mark}
 use Rattle.script_syntax.specs.declared.token.Mark.TheVariants as marks
 use Rattle.script_syntax.specs.declared.token.Token.{Token}
 use Rattle.script_syntax.specs.declared.token.Token.TheVariants as tokens

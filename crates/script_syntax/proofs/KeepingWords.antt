@@ -13,7 +13,6 @@ use Rattle.script_syntax.specs.declared.token.Mark.{Mark}
 use Rattle.script_syntax.specs.declared.token.Mark.TheVariants as marks
 use Rattle.script_syntax.specs.declared.token.Token.{Token}
 use Rattle.script_syntax.specs.declared.token.Token.TheVariants as tokens
-use Rattle.script_syntax.specs.declared.tree.Binding.{Binding}
 use Rattle.script_syntax.specs.declared.tree.Target.{Target}
 use Rattle.script_syntax.specs.declared.tree.Expr.{Expr}
 use Rattle.script_syntax.specs.declared.tree.Statement.{Statement}

@@ -5,7 +5,6 @@ use Rattle.script_syntax.specs.declared.token.Comparison.{Comparison}
 use Rattle.script_syntax.specs.declared.token.Sign.{Sign}
 use Rattle.script_syntax.specs.declared.token.Sign.TheVariants.{Minus}
 use Rattle.script_syntax.specs.declared.token.Factor.{Factor}
-use Rattle.script_syntax.specs.declared.token.Operator.{Operator}
 use Rattle.script_syntax.specs.declared.token.Operator.TheVariants as operators
 use Rattle.script_syntax.specs.declared.token.Key.TheVariants as keys
 use Rattle.script_syntax.specs.declared.token.Mark.TheVariants as marks

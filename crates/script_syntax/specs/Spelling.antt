@@ -14,7 +14,6 @@ use Rattle.script_syntax.specs.declared.token.Operator.{Operator}
 use Rattle.script_syntax.specs.declared.token.Operator.TheVariants as operators
 use Rattle.script_syntax.specs.declared.token.Key.{Key}
 use Rattle.script_syntax.specs.declared.token.Key.TheVariants as keys
-use Rattle.script_syntax.specs.declared.token.Mark.{Mark}
 use Rattle.script_syntax.specs.declared.token.Mark.TheVariants as marks
 use Rattle.script_syntax.specs.declared.token.Token.{Token}
 use Rattle.script_syntax.specs.declared.token.Token.TheVariants as tokens

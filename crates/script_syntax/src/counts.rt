@@ -16,7 +16,7 @@ const MOST_COUNTED: u32 = 256;
 const MOST_STEPS: u64 = 100_000;
 
 /// What is counted of the tokens before one.
-#[derive(Clone, Copy, Debug)]
+#[derive(Clone, Copy)]
 pub struct Counts {
     /// Whether `areamap` is among them.
     pub covered: bool,

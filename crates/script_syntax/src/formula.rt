@@ -12,7 +12,7 @@ use sqlite_items::Items;
 use std::alloc::{AllocError, AllocFailed, Global};
 
 /// Why a token was not taken: no script goes on with it, or there was no memory.
-#[derive(Clone, Copy, Debug, PartialEq, Eq)]
+#[derive(Clone, Copy)]
 pub enum Refused {
     Token,
     Memory,
@@ -35,7 +35,7 @@ impl<T: Drop> From<AllocFailed<T>> for Refused {
 }
 
 /// What is known of the operand that is read.
-#[derive(Debug, Drop)]
+#[derive(Drop)]
 pub enum Operand {
     /// Nothing.
     Due,
@@ -50,7 +50,7 @@ pub enum Operand {
 }
 
 /// An expression that is read token by token.
-#[derive(Debug, Drop)]
+#[derive(Drop)]
 pub struct Formula {
     pub frames: Frames,
     pub operand: Operand,

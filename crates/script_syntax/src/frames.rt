@@ -10,7 +10,7 @@ use std::alloc::{AllocError, Global};
 use std::marker::Model;
 
 /// What is open around the next operand of an expression.
-#[derive(Debug, Drop)]
+#[derive(Drop)]
 pub enum Frame {
     /// A left operand and its operator.
     Left { left: Expr, operator: Operator },
@@ -65,7 +65,7 @@ impl Frame {
 }
 
 /// The frames that are open. Contracts see the innermost first.
-#[derive(Debug, Drop)]
+#[derive(Drop)]
 pub struct Frames {
     open: Vec<Frame>,
 }

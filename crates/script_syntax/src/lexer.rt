@@ -14,7 +14,7 @@ use std::alloc::{AllocError, Global};
 use text_base::{is_file_byte, is_letter, is_word_byte};
 
 /// A token at the front of a text, and how many bytes it has.
-#[derive(Debug, Drop)]
+#[derive(Drop)]
 pub struct Found {
     pub token: Token,
     pub len: usize,

@@ -5,7 +5,7 @@ ghost use Rattle.script_syntax.specs.Spelling.{mode_after};
 use crate::token::{Key, Mark, Token};
 
 /// Where in a script the next token stands, which says what a token is there.
-#[derive(Clone, Copy, Debug, PartialEq, Eq)]
+#[derive(Clone, Copy)]
 pub enum Mode {
     /// Before `areamap`, in no file place.
     Bindings,
@@ -35,7 +35,7 @@ impl Mode {
 }
 
 /// A place in a text: its line and its column, in bytes, which both count from 1.
-#[derive(Clone, Copy, Debug, PartialEq, Eq)]
+#[derive(Clone, Copy)]
 pub struct Place {
     pub line: u32,
     pub column: u32,

@@ -12,7 +12,7 @@ use std::alloc::{AllocError, Global};
 use text_base::whole_number;
 
 /// The section that is read, and whether a script may end there and may have more.
-#[derive(Clone, Copy, Debug, PartialEq, Eq)]
+#[derive(Clone, Copy)]
 pub enum Section {
     /// `initial` of a script without `timer`.
     Static,
@@ -22,7 +22,7 @@ pub enum Section {
 }
 
 /// What is read, and so what may stand next.
-#[derive(Debug, Drop)]
+#[derive(Drop)]
 pub enum Phase {
     /// Nothing: `binding` or `areamap`.
     Start,
@@ -65,7 +65,7 @@ pub enum Phase {
 }
 
 /// A script that is read token by token: its tree so far, and what may stand next.
-#[derive(Debug, Drop)]
+#[derive(Drop)]
 pub struct Reading {
     pub script: Script,
     pub phase: Phase,

@@ -11,7 +11,7 @@ use std::alloc::{AllocError, Global};
 use text_base::is_blank;
 
 /// A token, the place of its first byte, and how many bytes it has.
-#[derive(Debug, Drop)]
+#[derive(Drop)]
 pub struct Placed {
     pub token: Token,
     pub place: Place,
@@ -32,7 +32,7 @@ impl Placed {
 }
 
 /// What stands next in a text.
-#[derive(Debug, Drop)]
+#[derive(Drop)]
 pub enum Next {
     Token(Placed),
     /// A byte that begins no token.
@@ -41,7 +41,7 @@ pub enum Next {
 }
 
 /// A text that is read token by token: what is left of it, and where that begins.
-#[derive(Debug, Drop)]
+#[derive(Drop)]
 pub struct Scanner<'a> {
     pub rest: &'a [u8],
     pub mode: Mode,

@@ -5,7 +5,7 @@ ghost use Rattle.script_syntax.specs.inside.Levels.{left_level, level_of, right_
 use cell_values::Word;
 
 /// How two values are compared.
-#[derive(Clone, Copy, Debug, PartialEq, Eq)]
+#[derive(Clone, Copy)]
 pub enum Comparison {
     Equal,
     Unequal,
@@ -16,14 +16,14 @@ pub enum Comparison {
 }
 
 /// The operators of sums.
-#[derive(Clone, Copy, Debug, PartialEq, Eq)]
+#[derive(Clone, Copy)]
 pub enum Sign {
     Plus,
     Minus,
 }
 
 /// The operators of products.
-#[derive(Clone, Copy, Debug, PartialEq, Eq)]
+#[derive(Clone, Copy)]
 pub enum Factor {
     Times,
     Over,
@@ -32,7 +32,7 @@ pub enum Factor {
 }
 
 /// An operator with two operands. Its spellings are one operator.
-#[derive(Clone, Copy, Debug, PartialEq, Eq)]
+#[derive(Clone, Copy)]
 pub enum Operator {
     Or,
     Xor,
@@ -43,7 +43,7 @@ pub enum Operator {
 }
 
 /// A word of the language that is no operator.
-#[derive(Clone, Copy, Debug, PartialEq, Eq)]
+#[derive(Clone, Copy)]
 pub enum Key {
     Binding,
     Areamap,
@@ -57,7 +57,7 @@ pub enum Key {
 }
 
 /// A sign between the parts of a script.
-#[derive(Clone, Copy, Debug, PartialEq, Eq)]
+#[derive(Clone, Copy)]
 pub enum Mark {
     Semicolon,
     Equal,
@@ -68,7 +68,7 @@ pub enum Mark {
 }
 
 /// A token of a script text.
-#[derive(Debug, Drop)]
+#[derive(Drop)]
 pub enum Token {
     /// A letter, then letters, digits and `_`, no word of the language.
     Name(Word),
