@@ -3,6 +3,7 @@
 use crate::maps::{Drawn, checked, drain_of, drawn_cells};
 use drain_check::{CheckEnd, drain_order};
 use std::alloc::Global;
+use std::process::Abort;
 use std::test::Fail;
 
 /// Sound maps.
@@ -63,27 +64,43 @@ fn end_of(alloc: Global, (rows, cols, signs): Drawn) -> Result<Option<CheckEnd>,
     }
 }
 
+// The check of a drawn map ends so.
+fn expect_end(
+    rt: &impl Abort,
+    alloc: Global,
+    map: Drawn,
+    wanted: Option<CheckEnd>,
+) -> Result<(), Fail> {
+    assert_eq!(rt; end_of(alloc, map)?, wanted, "{map:?}");
+    Ok(())
+}
+
 #[test]
 fn sound_maps_are_taken(rt: HostRuntime) -> Result<(), Fail> {
-    for map in SOUND {
-        assert_eq!(rt; end_of(rt.alloc(), map)?, None, "{map:?}");
+    for map in SOUND.iter() {
+        expect_end(&rt, rt.alloc(), *map, None)?;
     }
     Ok(())
 }
 
 #[test]
 fn the_first_place_is_told(rt: HostRuntime) -> Result<(), Fail> {
-    for (map, place) in UNSOUND {
-        let want = Some(CheckEnd::Unsound { place });
-        assert_eq!(rt; end_of(rt.alloc(), map)?, want, "{map:?}");
+    for (map, place) in UNSOUND.iter() {
+        let wanted = Some(CheckEnd::Unsound { place: *place });
+        expect_end(&rt, rt.alloc(), *map, wanted)?;
     }
     Ok(())
 }
 
+// The drain order of a drawn map, which is sound.
+fn order_of(alloc: Global, map: Drawn) -> Result<Vec<u32>, Fail> {
+    let drain = drain_of(alloc, map)?;
+    Ok(drain_order(alloc, &drain)?)
+}
+
 #[test]
 fn drain_order_goes_up_the_river(rt: HostRuntime) -> Result<(), Fail> {
-    let river = drain_of(rt.alloc(), (2, 3, b"662.54"))?;
-    let order = drain_order(rt.alloc(), &river)?;
+    let order = order_of(rt.alloc(), (2, 3, b"662.54"))?;
     assert_eq!(rt; order.as_slice(), [4, 5, 2, 1, 0].as_slice());
     Ok(())
 }

@@ -1,6 +1,10 @@
 //! Transports over whole maps by the kit of the first ones, a row a transport.
 
-use crate::maps::{Drawn, ONE, drain_of, scalars};
+ghost use Rattle.std.specs.Prelude.{length};
+ghost use Rattle.drain_ops.specs.Operands.{AreInRange, flow_operand};
+ghost use Rattle.tile_map.specs.Args.{SpansPlaces};
+
+use crate::maps::{Drawn, ONE, drain_of, expect_part, scalars};
 use cell_values::Cell::{Mv, Val};
 use cell_values::Kind::{Nominal, Scalar};
 use cell_values::{Cell, Kind};
@@ -207,28 +211,24 @@ static ROWS: [Row; 15] = [
     ),
 ];
 
-// The transport by the kit.
-fn by_kit(
+// The transport by the kit where its second operand is one number for all places, or none.
+fn by_number(
     alloc: Global,
     op: FlowOp,
     kind: Kind,
     drain: &Drain,
     given: &[Cell],
-    second: Second,
-) -> Result<Part, Fail> {
+    number: Arg<'_>,
+) -> Result<Part, Fail>
+    requires spans { SpansPlaces number (length drain.now.codes) }
+    requires range { AreInRange (flow_operand number) }
+{
     let a = scalars(alloc, given)?;
     if !BaseKit.knows(op) || a.len() != drain.cells().len() {
         Err("the kit does not know the transport, or the map has another size")?
     }
     let cells = Arg::Cells(a.as_slice());
-    match second {
-        Second::Unused => Ok(BaseKit.whole(alloc, op, kind, drain, cells, Arg::Unused)?),
-        Second::One => {
-            let one = Arg::One(Val(1_000_000));
-            Ok(BaseKit.whole(alloc, op, kind, drain, cells, one)?)
-        }
-        Second::Cells(other) => by_cells(alloc, op, kind, drain, given, other),
-    }
+    Ok(BaseKit.whole(alloc, op, kind, drain, cells, number)?)
 }
 
 // The transport by the kit where each of its operands has a cell for each place.
@@ -250,6 +250,22 @@ fn by_cells(
     Ok(BaseKit.whole(alloc, op, kind, drain, a, b)?)
 }
 
+// The transport by the kit.
+fn by_kit(
+    alloc: Global,
+    op: FlowOp,
+    kind: Kind,
+    drain: &Drain,
+    given: &[Cell],
+    second: Second,
+) -> Result<Part, Fail> {
+    match second {
+        Second::Unused => by_number(alloc, op, kind, drain, given, Arg::Unused),
+        Second::One => by_number(alloc, op, kind, drain, given, Arg::One(Val(ONE))),
+        Second::Cells(other) => by_cells(alloc, op, kind, drain, given, other),
+    }
+}
+
 // The part of a row.
 fn part_of_row(alloc: Global, (op, kind, map, given, second, _, _): Row) -> Result<Part, Fail> {
     let drain = drain_of(alloc, map)?;
@@ -260,8 +276,7 @@ fn part_of_row(alloc: Global, (op, kind, map, given, second, _, _): Row) -> Resu
 fn transports_come_out(rt: HostRuntime) -> Result<(), Fail> {
     for (number, row) in ROWS.iter().enumerate() {
         let part = part_of_row(rt.alloc(), *row)?;
-        assert_eq!(rt; part.cells.as_slice(), row.5, "row {number}");
-        assert_eq!(rt; part.over, row.6, "row {number}");
+        expect_part(&rt, number, &part, row.5, row.6);
     }
     Ok(())
 }

@@ -8,9 +8,12 @@ ghost use Rattle.tile_map.specs.Cuts.{cell_at};
 use cell_values::Cell::{Mv, Val};
 use cell_values::{Cell, Kind, to_cell};
 use drain_check::{CheckEnd, check_drain};
-use drain_meaning::Drain;
+use drain_meaning::{AccuRule, Drain};
+use drain_ops::flow_whole;
 use std::alloc::{AllocError, Global};
+use std::process::Abort;
 use std::test::Fail;
+use tile_map::{Arg, Part};
 
 /// A map's rows and columns, and its cells.
 pub type Drawn = (u32, u32, &'static [u8]);
@@ -76,10 +79,37 @@ pub(crate) fn checked(
     Ok(check_drain(alloc, rows, cols, codes))
 }
 
-/// The drawn map, which is sound.
-pub(crate) fn drain_of(alloc: Global, (rows, cols, signs): Drawn) -> Result<Drain, Fail> {
-    match checked(alloc, rows, cols, drawn_cells(alloc, signs)?.as_slice())? {
+/// The map of these codes, which is sound.
+pub(crate) fn sound(alloc: Global, rows: u32, cols: u32, codes: &[Cell]) -> Result<Drain, Fail> {
+    match checked(alloc, rows, cols, codes)? {
         Ok(drain) => Ok(drain),
         Err(_) => Err("the map is not sound")?,
     }
+}
+
+/// The drawn map, which is sound.
+pub(crate) fn drain_of(alloc: Global, (rows, cols, signs): Drawn) -> Result<Drain, Fail> {
+    let codes = drawn_cells(alloc, signs)?;
+    sound(alloc, rows, cols, codes.as_slice())
+}
+
+/// What comes together where each cell has one unit of material.
+pub(crate) fn accumulated(alloc: Global, drain: &Drain) -> Result<Part, AllocError> {
+    let one = Arg::One(Val(1));
+    flow_whole(alloc, &AccuRule, Kind::Scalar, drain, one, Arg::Unused)
+}
+
+/// Compares the cells of a part and its first place that is out of range with those that are wanted.
+pub(crate) fn expect_part(
+    rt: &impl Abort,
+    row: usize,
+    part: &Part,
+    cells: &[Cell],
+    over: Option<u32>,
+) {
+    assert_eq!(rt;
+        (part.cells.as_slice(), part.over),
+        (cells, over),
+        "row {row}"
+    );
 }

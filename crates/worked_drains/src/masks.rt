@@ -1,13 +1,13 @@
 //! Masked drain maps, and a transport over one.
 
-use crate::maps::{Drawn, drain_of, drawn_cells};
+use crate::maps::{Drawn, accumulated, drain_of, drawn_cells, expect_part};
 use cell_values::Cell::{Mv, Val};
-use cell_values::Kind;
-use drain_meaning::{AccuRule, Drain};
-use drain_ops::{flow_whole, mask_drain};
+use drain_meaning::Drain;
+use drain_ops::mask_drain;
 use std::alloc::Global;
+use std::process::Abort;
 use std::test::Fail;
-use tile_map::{Arg, Part};
+use tile_map::Arg;
 
 /// A map, a mask, and the map that it leaves.
 static MASKS: [(Drawn, &[u8], &[u8]); 7] = [
@@ -32,18 +32,24 @@ fn masked(alloc: Global, map: Drawn, mask: &[u8]) -> Result<Drain, Fail> {
     Ok(mask_drain(alloc, &drain, Arg::Cells(mask.as_slice()))?)
 }
 
-// What comes together where each cell has one unit of material.
-fn accumulated(alloc: Global, drain: &Drain) -> Result<Part, Fail> {
-    let one = Arg::One(Val(1));
-    Ok(flow_whole(alloc, &AccuRule, Kind::Scalar, drain, one, Arg::Unused)?)
+// The mask leaves this of a map.
+fn expect_left(
+    rt: &impl Abort,
+    alloc: Global,
+    map: Drawn,
+    mask: &[u8],
+    wanted: &[u8],
+) -> Result<(), Fail> {
+    let left = masked(alloc, map, mask)?;
+    let wanted = drawn_cells(alloc, wanted)?;
+    assert_eq!(rt; left.cells(), wanted.as_slice(), "{map:?} {mask:?}");
+    Ok(())
 }
 
 #[test]
 fn masks_come_out(rt: HostRuntime) -> Result<(), Fail> {
-    for (map, mask, want) in MASKS {
-        let left = masked(rt.alloc(), map, mask)?;
-        let want = drawn_cells(rt.alloc(), want)?;
-        assert_eq!(rt; left.cells(), want.as_slice(), "{map:?} {mask:?}");
+    for (map, mask, wanted) in MASKS.iter() {
+        expect_left(&rt, rt.alloc(), *map, mask, wanted)?;
     }
     Ok(())
 }
@@ -52,9 +58,6 @@ fn masks_come_out(rt: HostRuntime) -> Result<(), Fail> {
 fn flow_stops_at_the_mask(rt: HostRuntime) -> Result<(), Fail> {
     let left = masked(rt.alloc(), (1, 4, b"6665"), b"1101")?;
     let part = accumulated(rt.alloc(), &left)?;
-    assert_eq!(rt;
-        part.cells.as_slice(),
-        [Val(1), Val(2), Mv, Val(1)].as_slice()
-    );
+    expect_part(&rt, 0, &part, &[Val(1), Val(2), Mv, Val(1)], None);
     Ok(())
 }

@@ -6,12 +6,13 @@ ghost use Rattle.cell_values.specs.declared.kind.Kind.TheVariants.{Scalar};
 ghost use Rattle.tile_map.specs.Cuts.{cell_at};
 ghost use Rattle.tile_map.specs.Tiles.{tile_count};
 
-use crate::maps::{Drawn, drain_of, scalars};
+use crate::maps::{Drawn, drain_of, expect_part, scalars};
 use cell_values::Cell;
 use cell_values::Cell::{Mv, Val};
 use drain_meaning::{Drain, NearOp};
 use drain_ops::near_part;
 use std::alloc::{AllocError, Global};
+use std::process::Abort;
 use std::test::Fail;
 use tile_map::{Part, Tiling};
 
@@ -195,6 +196,27 @@ fn near_tiles(
     Ok(())
 }
 
+// One step over all tiles, into a map of its own.
+fn step_over(
+    alloc: Global,
+    op: NearOp,
+    drain: &Drain,
+    values: &[Cell],
+    tiling: &Tiling,
+) -> Result<Vec<Cell>, Fail>
+    requires rows { tiling.now.rows ≡ drain.now.rows }
+    requires cols { tiling.now.cols ≡ drain.now.cols }
+    requires scalars { (place : ℕ) → IsCell Scalar (cell_at values.now place) }
+{
+    let count = drain.cells().len();
+    if values.len() != count {
+        Err("the map has another size")?
+    }
+    let mut whole = vec![in alloc; Val(-1); count]?;
+    near_tiles(alloc, op, drain, values, tiling, &mut whole)?;
+    Ok(whole)
+}
+
 // One step over a map, by tiles of this size.
 fn by_tiles(
     alloc: Global,
@@ -206,13 +228,7 @@ fn by_tiles(
     let drain = drain_of(alloc, map)?;
     let values = scalars(alloc, values)?;
     let tiling = tiling_of(&drain, tile_rows, tile_cols)?;
-    let count = drain.cells().len();
-    if values.len() != count {
-        Err("the map has another size")?
-    }
-    let mut whole = vec![in alloc; Val(-1); count]?;
-    near_tiles(alloc, op, &drain, &values, &tiling, &mut whole)?;
-    Ok(whole)
+    step_over(alloc, op, &drain, &values, &tiling)
 }
 
 // One step over a map in one piece.
@@ -226,15 +242,27 @@ fn in_one(alloc: Global, op: NearOp, map: Drawn, values: &[Cell]) -> Result<Part
     Ok(near_tile(alloc, op, &drain, &values, &tiling, 0)?)
 }
 
+// One step over a map gives these cells, by tiles of each size.
+fn expect_steps(
+    rt: &impl Abort,
+    alloc: Global,
+    op: NearOp,
+    map: Drawn,
+    values: &[Cell],
+    wanted: &[Cell],
+) -> Result<(), Fail> {
+    for sides in SIDES.iter() {
+        let got = by_tiles(alloc, op, map, values, *sides)?;
+        assert_eq!(rt; got.as_slice(), wanted, "{map:?} {sides:?}");
+    }
+    Ok(())
+}
+
 #[test]
 fn steps_come_out(rt: HostRuntime) -> Result<(), Fail> {
-    for (map, values, up, down) in ROWS {
-        for sides in SIDES {
-            let got = by_tiles(rt.alloc(), NearOp::Upstream, map, values, sides)?;
-            assert_eq!(rt; got.as_slice(), up, "{map:?} {sides:?}");
-            let got = by_tiles(rt.alloc(), NearOp::Downstream, map, values, sides)?;
-            assert_eq!(rt; got.as_slice(), down, "{map:?} {sides:?}");
-        }
+    for (map, values, up, down) in ROWS.iter() {
+        expect_steps(&rt, rt.alloc(), NearOp::Upstream, *map, values, up)?;
+        expect_steps(&rt, rt.alloc(), NearOp::Downstream, *map, values, down)?;
     }
     Ok(())
 }
@@ -243,7 +271,6 @@ fn steps_come_out(rt: HostRuntime) -> Result<(), Fail> {
 fn sums_are_judged_at_each_cell(rt: HostRuntime) -> Result<(), Fail> {
     let values = [Val(MOST), Val(0), Val(1)];
     let got = in_one(rt.alloc(), NearOp::Upstream, (1, 3, b"654"), &values)?;
-    assert_eq!(rt; got.cells.as_slice(), [Val(0), Mv, Val(0)].as_slice());
-    assert_eq!(rt; got.over, Some(1));
+    expect_part(&rt, 0, &got, &[Val(0), Mv, Val(0)], Some(1));
     Ok(())
 }

@@ -1,13 +1,11 @@
 //! One river over all cells of a map of 64 by 64, which winds inward.
 
-use crate::maps::checked;
+use crate::maps::{accumulated, sound};
+use cell_values::Cell;
 use cell_values::Cell::Val;
-use cell_values::{Cell, Kind};
-use drain_meaning::{AccuRule, Drain};
-use drain_ops::flow_whole;
+use drain_meaning::Drain;
 use std::alloc::{AllocError, Global};
 use std::test::Fail;
-use tile_map::{Arg, Part};
 
 /// The number of the last row and column.
 const LAST: u32 = 63;
@@ -43,16 +41,8 @@ fn river_codes(alloc: Global) -> Result<Vec<Cell>, AllocError> {
 
 // The river's drain map, which is sound.
 fn river(alloc: Global) -> Result<Drain, Fail> {
-    match checked(alloc, 64, 64, river_codes(alloc)?.as_slice())? {
-        Ok(drain) => Ok(drain),
-        Err(_) => Err("the river is not sound")?,
-    }
-}
-
-// What comes together where each cell has one unit of material.
-fn accumulated(alloc: Global, drain: &Drain) -> Result<Part, Fail> {
-    let one = Arg::One(Val(1));
-    Ok(flow_whole(alloc, &AccuRule, Kind::Scalar, drain, one, Arg::Unused)?)
+    let codes = river_codes(alloc)?;
+    sound(alloc, 64, 64, codes.as_slice())
 }
 
 // The values at the pits.
@@ -77,13 +67,19 @@ fn sum(cells: &[Cell]) -> i64 {
     sum
 }
 
+// What comes together along the river: the values at its pits, and the sum of all cells.
+fn come_together(alloc: Global) -> Result<(Vec<Cell>, i64), Fail> {
+    let river = river(alloc)?;
+    let part = accumulated(alloc, &river)?;
+    let cells = part.cells.as_slice();
+    let pits = at_pits(alloc, river.cells(), cells)?;
+    Ok((pits, sum(cells)))
+}
+
 #[test]
 fn all_cells_come_to_the_last(rt: HostRuntime) -> Result<(), Fail> {
-    let river = river(rt.alloc())?;
-    let part = accumulated(rt.alloc(), &river)?;
-    let pits = at_pits(rt.alloc(), river.cells(), part.cells.as_slice())?;
-    assert_eq!(rt; pits.as_slice(), [Val(4096)].as_slice());
+    let (pits, sum) = come_together(rt.alloc())?;
     // The river grows by one at each cell: 1 + 2 + .. + 4,096.
-    assert_eq!(rt; sum(part.cells.as_slice()), 8_390_656);
+    assert_eq!(rt; (pits.as_slice(), sum), ([Val(4096)].as_slice(), 8_390_656));
     Ok(())
 }
