@@ -17,14 +17,28 @@ fn computed(
     op: AreaOp,
     cells: &[Cell],
     classes: &[Cell],
-) -> Result<usize, AllocError> {
+) -> Result<u64, AllocError> {
     let len = cells.len();
     if len > 4_194_304 || classes.len() != len {
         return Ok(0);
     }
     let partial = Partial::of(alloc, op, Arg::Cells(cells), Arg::Cells(classes), len)?;
     let part = partial.spread(alloc, Arg::Cells(classes), len)?;
-    Ok(part.cells.as_slice().len())
+    Ok(part.cells.as_slice().len() as u64)
+}
+
+// A round of an operation: how many cells it gives.
+fn round<R: Clock + AllocGlobal>(
+    rt: &R,
+    best: &mut Best,
+    op: AreaOp,
+    cells: &[Cell],
+    classes: &[Cell],
+) -> Result<u64, Fail> {
+    let start = Instant::now(rt)?;
+    let count = computed(rt.alloc(), op, cells, classes)?;
+    best.note(rt, start)?;
+    Ok(count)
 }
 
 // Times so many rounds of an operation, and prints the best one.
@@ -37,32 +51,29 @@ fn time_op<R: Clock + Print + AllocGlobal>(
     classes: &[Cell],
 ) -> Result<(), Fail> {
     let mut best = Best::none();
-    let mut sum = 0usize;
+    let mut sum = 0u64;
     for _ in 0..rounds {
-        let start = Instant::now(rt)?;
-        sum = sum.wrapping_add(computed(rt.alloc(), op, cells, classes)?);
-        best.note(start.elapsed(rt)?);
+        sum = sum.wrapping_add(round(rt, &mut best, op, cells, classes)?);
     }
-    let best = best.nanoseconds();
-    println!(rt; "{name} {best} {sum}")?;
-    Ok(())
+    best.print_with(rt, name, sum)
+}
+
+// Times the operations over so drawn areas.
+fn time_ops<R: Clock + Print + AllocGlobal>(
+    rt: &R,
+    cells: &[Cell],
+    few: &[Cell],
+    many: &[Cell],
+) -> Result<(), Fail> {
+    time_op(rt, 5, "average_few", AreaOp::Average, cells, few)?;
+    time_op(rt, 5, "average_many", AreaOp::Average, cells, many)
 }
 
 /// Times the average of areas: of 16 classes (`average_few`), and of 1,024 (`average_many`). Prints the best round of each
 /// in nanoseconds.
 pub fn time_areas<R: Clock + Print + AllocGlobal>(rt: &R) -> Result<(), Fail> {
     let cells = drawn(rt.alloc(), 2048 * 2048, 1442695040888963407, 33)?;
-    let cells = cells.as_slice();
     let few = drawn(rt.alloc(), 2048 * 2048, 987654321, 60)?;
     let many = drawn(rt.alloc(), 2048 * 2048, 987654321, 54)?;
-    time_op(rt, 5, "average_few", AreaOp::Average, cells, few.as_slice())?;
-    time_op(
-        rt,
-        5,
-        "average_many",
-        AreaOp::Average,
-        cells,
-        many.as_slice(),
-    )?;
-    Ok(())
+    time_ops(rt, cells.as_slice(), few.as_slice(), many.as_slice())
 }

@@ -45,7 +45,7 @@ fn computed(
     a: &[Cell],
     b: &[Cell],
     c: &[Cell],
-) -> Result<usize, AllocError>
+) -> Result<u64, AllocError>
     requires { IsWork work }
 {
     let len = a.len();
@@ -61,7 +61,24 @@ fn computed(
         Arg::Cells(c),
         Arg::Unused,
     )?;
-    Ok(part.cells.as_slice().len())
+    Ok(part.cells.as_slice().len() as u64)
+}
+
+// A round of an operation: how many cells it gives.
+fn round<R: Clock + AllocGlobal>(
+    rt: &R,
+    best: &mut Best,
+    work: CellWork<'_>,
+    a: &[Cell],
+    b: &[Cell],
+    c: &[Cell],
+) -> Result<u64, Fail>
+    requires { IsWork work }
+{
+    let start = Instant::now(rt)?;
+    let count = computed(rt.alloc(), work, a, b, c)?;
+    best.note(rt, start)?;
+    Ok(count)
 }
 
 // Times so many rounds of an operation, and prints the best one.
@@ -77,15 +94,30 @@ fn time_work<R: Clock + Print + AllocGlobal>(
     requires { IsWork work }
 {
     let mut best = Best::none();
-    let mut sum = 0usize;
+    let mut sum = 0u64;
     for _ in 0..rounds {
-        let start = Instant::now(rt)?;
-        sum = sum.wrapping_add(computed(rt.alloc(), work, a, b, c)?);
-        best.note(start.elapsed(rt)?);
+        sum = sum.wrapping_add(round(rt, &mut best, work, a, b, c)?);
     }
-    let best = best.nanoseconds();
-    println!(rt; "{name} {best} {sum}")?;
-    Ok(())
+    best.print_with(rt, name, sum)
+}
+
+// Times the operations over these cells.
+fn time_works<R: Clock + Print + AllocGlobal>(
+    rt: &R,
+    rounds: u32,
+    a: &[Cell],
+    b: &[Cell],
+    truth: &[Cell],
+) -> Result<(), Fail> {
+    time_work(rt, rounds, "add", CellWork::Plain(Op::Add), a, b, b)?;
+    time_work(rt, rounds, "min", CellWork::Plain(Op::Min), a, b, b)?;
+    time_work(rt, rounds, "less", CellWork::Plain(Op::Less), a, b, b)?;
+    time_work(rt, rounds, "if", CellWork::Plain(Op::IfElse), truth, a, b)?;
+    let to_scalar = CellWork::Convert {
+        from: Kind::Nominal,
+        to: Kind::Scalar,
+    };
+    time_work(rt, rounds, "scalar", to_scalar, a, b, b)
 }
 
 /// Times so many rounds of some operations on cells over so many places, and prints the best round of each in nanoseconds.
@@ -98,14 +130,5 @@ pub fn time_cells<R: Clock + Print + AllocGlobal>(
     let b = drawn(rt.alloc(), places, 987654321, 33)?;
     let truth = drawn(rt.alloc(), places, 1442695040888963407, 63)?;
     let (a, b, truth) = (a.as_slice(), b.as_slice(), truth.as_slice());
-    time_work(rt, rounds, "add", CellWork::Plain(Op::Add), a, b, b)?;
-    time_work(rt, rounds, "min", CellWork::Plain(Op::Min), a, b, b)?;
-    time_work(rt, rounds, "less", CellWork::Plain(Op::Less), a, b, b)?;
-    time_work(rt, rounds, "if", CellWork::Plain(Op::IfElse), truth, a, b)?;
-    let to_scalar = CellWork::Convert {
-        from: Kind::Nominal,
-        to: Kind::Scalar,
-    };
-    time_work(rt, rounds, "scalar", to_scalar, a, b, b)?;
-    Ok(())
+    time_works(rt, rounds, a, b, truth)
 }

@@ -15,7 +15,7 @@ use std::alloc::{AllocError, Global};
 use std::rt::Clock;
 use std::test::Fail;
 use std::time::Instant;
-use tile_map::Arg;
+use tile_map::{Arg, Part};
 
 /// How many rows and columns the maps have.
 const SIDE: u32 = 2048;
@@ -101,45 +101,96 @@ fn codes(alloc: Global, shape: Shape) -> Result<Vec<Cell>, AllocError>
     Ok(cells)
 }
 
-// The sum of the cells of `accuflux` where each cell has one unit of material, so far as it fits.
-fn accumulated(alloc: Global, drain: &Drain) -> Result<i64, AllocError> {
+// The drain map of these codes, where they are sound.
+fn drain_of(alloc: Global, codes: Vec<Cell>) -> Option<Drain>
+    requires many { length codes.items ≡ 4194304 }
+    requires codes { (place : ℕ) → IsCell Ldd (cell_at codes.items place) }
+{
+    check_drain(alloc, SIDE, SIDE, codes).ok()
+}
+
+// What `accuflux` gives where each cell has one unit of material.
+fn accumulated(alloc: Global, drain: &Drain) -> Result<Part, AllocError> {
     let one = Arg::One(Cell::Val(1));
-    let part = flow_whole(alloc, &AccuRule, Kind::Scalar, drain, one, Arg::Unused)?;
+    flow_whole(alloc, &AccuRule, Kind::Scalar, drain, one, Arg::Unused)
+}
+
+// The sum of the cells, so far as it fits.
+fn sum_of(cells: &[Cell]) -> u64 {
     let mut sum = 0i64;
-    for cell in part.cells.as_slice() {
+    for cell in cells {
         if let Cell::Val(value) = cell {
             sum = sum.wrapping_add(*value);
         }
     }
+    sum.unsigned_abs()
+}
+
+// A round of the check of a map: the map, where it is sound.
+fn check_round<R: Clock + AllocGlobal>(
+    rt: &R,
+    best: &mut Best,
+    shape: Shape,
+) -> Result<Option<Drain>, Fail> {
+    let codes = codes(rt.alloc(), shape)?;
+    let start = Instant::now(rt)?;
+    let drain = drain_of(rt.alloc(), codes);
+    best.note(rt, start)?;
+    Ok(drain)
+}
+
+// A round of `accuflux` over a map: the sum of its cells.
+fn flow_round<R: Clock + AllocGlobal>(rt: &R, best: &mut Best, drain: &Drain) -> Result<u64, Fail> {
+    let start = Instant::now(rt)?;
+    let part = accumulated(rt.alloc(), drain)?;
+    let sum = sum_of(part.cells.as_slice());
+    best.note(rt, start)?;
     Ok(sum)
 }
 
-// Times the check of a map and `accuflux` over it, and prints the best round of each.
-fn time_map<R: Clock + Print + AllocGlobal>(rt: &R, name: &str, shape: Shape) -> Result<(), Fail> {
-    let mut check = Best::none();
-    let mut flow = Best::none();
-    let mut sum = 0i64;
-    for _ in 0..ROUNDS {
-        let cells = codes(rt.alloc(), shape)?;
-        let start = Instant::now(rt)?;
-        let Ok(drain) = check_drain(rt.alloc(), SIDE, SIDE, cells) else {
-            println!(rt; "{name} refused")?;
-            return Ok(());
-        };
-        check.note(start.elapsed(rt)?);
-        let start = Instant::now(rt)?;
-        sum = accumulated(rt.alloc(), &drain)?;
-        flow.note(start.elapsed(rt)?);
+// A round of both: the sum of the cells of `accuflux`, where the map is sound.
+fn map_round<R: Clock + AllocGlobal>(
+    rt: &R,
+    check: &mut Best,
+    flow: &mut Best,
+    shape: Shape,
+) -> Result<Option<u64>, Fail> {
+    match check_round(rt, check, shape)? {
+        Some(drain) => Ok(Some(flow_round(rt, flow, &drain)?)),
+        None => Ok(None),
     }
+}
+
+// Prints the best rounds of a map.
+fn print_map<R: Print>(rt: &R, name: &str, check: Best, flow: Best, sum: u64) -> Result<(), Fail> {
     let (check, flow) = (check.nanoseconds(), flow.nanoseconds());
     println!(rt; "{name}_check {check} {sum}")?;
     println!(rt; "{name}_accuflux {flow} {sum}")?;
     Ok(())
 }
 
+// Says that a map is not sound.
+fn say_refused<R: Print>(rt: &R, name: &str) -> Result<(), Fail> {
+    println!(rt; "{name} refused")?;
+    Ok(())
+}
+
+// Times the check of a map and `accuflux` over it, and prints the best round of each.
+fn time_map<R: Clock + Print + AllocGlobal>(rt: &R, name: &str, shape: Shape) -> Result<(), Fail> {
+    let mut check = Best::none();
+    let mut flow = Best::none();
+    let mut sum = 0u64;
+    for _ in 0..ROUNDS {
+        match map_round(rt, &mut check, &mut flow, shape)? {
+            Some(found) => sum = found,
+            None => return say_refused(rt, name),
+        }
+    }
+    print_map(rt, name, check, flow, sum)
+}
+
 /// Times the check of drain maps and `accuflux` over them, and prints the best round of each in nanoseconds.
 pub fn time_drains<R: Clock + Print + AllocGlobal>(rt: &R) -> Result<(), Fail> {
     time_map(rt, "made", Shape::Made)?;
-    time_map(rt, "spiral", Shape::Spiral)?;
-    Ok(())
+    time_map(rt, "spiral", Shape::Spiral)
 }

@@ -22,24 +22,33 @@ use tiles::time_tiles;
 use turns::time_turns;
 use windows::time_windows;
 
-// Times what the first word names.
-fn run<R: Clock + Env + Print + AllocGlobal + Wait>(rt: &R) -> Result<(), Fail> {
-    for arg in env::args(rt)?.skip(1) {
-        match arg.as_bytes() {
-            b"tiles" => time_tiles(rt)?,
-            b"cells" => time_cells(rt, 100_000, 200)?,
-            b"maps" => time_cells(rt, 2048 * 2048, 5)?,
-            b"table" => time_table(rt)?,
-            b"turns" => time_turns(rt)?,
-            b"drains" => time_drains(rt)?,
-            b"windows" => time_windows(rt)?,
-            b"areas" => time_areas(rt)?,
-            _ => println!(rt; "tiles | cells | maps | table | turns | drains | windows | areas")?,
-        }
-        return Ok(());
+// Times what a word names, or says the words.
+fn time<R: Clock + Print + AllocGlobal + Wait>(rt: &R, word: &[u8]) -> Result<(), Fail> {
+    match word {
+        b"tiles" => time_tiles(rt),
+        b"cells" => time_cells(rt, 100_000, 200),
+        b"maps" => time_cells(rt, 2048 * 2048, 5),
+        b"table" => time_table(rt),
+        b"turns" => time_turns(rt),
+        b"drains" => time_drains(rt),
+        b"windows" => time_windows(rt),
+        b"areas" => time_areas(rt),
+        _ => say_words(rt),
     }
+}
+
+// Says the words.
+fn say_words<R: Print>(rt: &R) -> Result<(), Fail> {
     println!(rt; "tiles | cells | maps | table | turns | drains | windows | areas")?;
     Ok(())
+}
+
+// Times what the first word names.
+fn run<R: Clock + Env + Print + AllocGlobal + Wait>(rt: &R) -> Result<(), Fail> {
+    match env::args(rt)?.nth(1) {
+        Some(word) => time(rt, word.as_bytes()),
+        None => say_words(rt),
+    }
 }
 
 fn main(rt: HostRuntime) -> Result<(), Fail> {

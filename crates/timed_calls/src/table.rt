@@ -1,9 +1,10 @@
 //! Lookups in a table of ten rows.
 
 use crate::best::Best;
-use cell_values::Cell::Val;
-use cell_values::Kind;
-use lookup_table::read_table;
+use cell_values::Cell::{Mv, Val};
+use cell_values::{Cell, Kind};
+use lookup_table::{Table, read_table};
+use std::alloc::Global;
 use std::rt::Clock;
 use std::test::Fail;
 use std::time::Instant;
@@ -18,26 +19,45 @@ const LOOKUPS: u32 = 1_000_000;
 /// How many rounds are timed.
 const ROUNDS: u32 = 20;
 
-/// Times lookups, each of which needs the one before, and prints the best round in nanoseconds.
-pub fn time_table<R: Clock + Print + AllocGlobal>(rt: &R) -> Result<(), Fail> {
-    let Ok(table) = read_table(rt.alloc(), 1, Kind::Scalar, TABLE) else {
-        println!(rt; "no table")?;
-        return Ok(());
-    };
+// The table, unless memory runs out.
+fn made_table(alloc: Global) -> Option<Table> {
+    read_table(alloc, 1, Kind::Scalar, TABLE).ok()
+}
+
+// A round of lookups, of which the first is of the key: the key that would be next.
+fn find_keys(table: &Table, key: i64) -> i64 {
+    let mut key = key;
+    for _ in 0..LOOKUPS {
+        key = next_key(table.find(key, 0, 0, 0), key);
+    }
+    key
+}
+
+// The key after a lookup.
+fn next_key(found: Cell, key: i64) -> i64 {
+    match found {
+        Val(found) => found.wrapping_mul(7).wrapping_add(key) & 0x7f_ffff,
+        Mv => 3_000_001,
+    }
+}
+
+// Times so many rounds of lookups, and prints the best one.
+fn time_finds<R: Clock + Print>(rt: &R, table: &Table) -> Result<(), Fail> {
     let mut best = Best::none();
     let mut key = 0i64;
     for _ in 0..ROUNDS {
         let start = Instant::now(rt)?;
-        for _ in 0..LOOKUPS {
-            if let Val(found) = table.find(key, 0, 0, 0) {
-                key = found.wrapping_mul(7).wrapping_add(key) & 0x7f_ffff;
-            } else {
-                key = 3_000_001;
-            }
-        }
-        best.note(start.elapsed(rt)?);
+        key = find_keys(table, key);
+        best.note(rt, start)?;
     }
-    let best = best.nanoseconds();
-    println!(rt; "find {best} {key}")?;
-    Ok(())
+    best.print_with(rt, "find", key.unsigned_abs())
+}
+
+/// Times lookups, each of which needs the one before, and prints the best round in nanoseconds.
+pub fn time_table<R: Clock + Print + AllocGlobal>(rt: &R) -> Result<(), Fail> {
+    let Some(table) = made_table(rt.alloc()) else {
+        println!(rt; "no table")?;
+        return Ok(());
+    };
+    time_finds(rt, &table)
 }

@@ -80,36 +80,105 @@ fn filled_map(alloc: Global, tiling: Tiling) -> Result<WholeMap, AllocError> {
     Ok(WholeMap { tiling, cells })
 }
 
+/// The best round of each call, and how many cells all rounds gave.
+#[derive(Clone, Copy)]
+struct Rounds {
+    cut: Best,
+    near: Best,
+    wide: Best,
+    paste: Best,
+    sum: usize,
+}
+
+// A round of cutting: the tiles.
+fn cut_round<R: Clock + AllocGlobal>(
+    rt: &R,
+    best: &mut Best,
+    map: &WholeMap,
+) -> Result<Tiled, Fail> {
+    let start = Instant::now(rt)?;
+    let tiles = all_tiles(rt.alloc(), map)?;
+    best.note(rt, start)?;
+    Ok(tiles)
+}
+
+// A round of gathering: how many cells it gives.
+fn gather_round<R: Clock + AllocGlobal>(
+    rt: &R,
+    best: &mut Best,
+    tiles: &Tiled,
+    k: u32,
+) -> Result<usize, Fail> {
+    let start = Instant::now(rt)?;
+    let count = gather_all(rt.alloc(), tiles, k)?;
+    best.note(rt, start)?;
+    Ok(count)
+}
+
+// A round of pasting: how many cells it puts.
+fn paste_round<R: Clock>(
+    rt: &R,
+    best: &mut Best,
+    tiles: &Tiled,
+    into: &mut [Cell],
+) -> Result<usize, Fail> {
+    let start = Instant::now(rt)?;
+    let count = paste_all(tiles, into);
+    best.note(rt, start)?;
+    Ok(count)
+}
+
+// A round of each call.
+fn time_round<R: Clock + AllocGlobal>(
+    rt: &R,
+    rounds: &mut Rounds,
+    map: &WholeMap,
+    into: &mut [Cell],
+) -> Result<(), Fail> {
+    let tiles = cut_round(rt, &mut rounds.cut, map)?;
+    let near = gather_round(rt, &mut rounds.near, &tiles, 1)?;
+    let wide = gather_round(rt, &mut rounds.wide, &tiles, 15)?;
+    let pasted = paste_round(rt, &mut rounds.paste, &tiles, into)?;
+    let count = near.wrapping_add(wide).wrapping_add(pasted);
+    rounds.sum = rounds.sum.wrapping_add(count);
+    Ok(())
+}
+
+// Times rounds of all calls.
+fn time_rounds<R: Clock + AllocGlobal>(
+    rt: &R,
+    map: &WholeMap,
+    into: &mut [Cell],
+) -> Result<Rounds, Fail> {
+    let mut rounds = Rounds {
+        cut: Best::none(),
+        near: Best::none(),
+        wide: Best::none(),
+        paste: Best::none(),
+        sum: 0,
+    };
+    for _ in 0..ROUNDS {
+        time_round(rt, &mut rounds, map, into)?;
+    }
+    Ok(rounds)
+}
+
+// Prints the best rounds.
+fn print_rounds<R: Print>(rt: &R, rounds: &Rounds) -> Result<(), Fail> {
+    rounds.cut.print(rt, "cut")?;
+    rounds.near.print(rt, "near")?;
+    rounds.wide.print(rt, "wide")?;
+    rounds.paste.print(rt, "paste")?;
+    let sum = rounds.sum;
+    println!(rt; "sum {sum}")?;
+    Ok(())
+}
+
 /// Times tiles of 64 by 64 cells over a map of 2,048 by 2,048, and prints the best round of each call in nanoseconds.
 pub fn time_tiles<R: Clock + Print + AllocGlobal>(rt: &R) -> Result<(), Fail> {
     let tiling = Tiling::new(2048, 2048, 64, 64);
     let map = filled_map(rt.alloc(), tiling)?;
     let mut into = filled_map(rt.alloc(), tiling)?.cells;
-    let mut cut = Best::none();
-    let mut near = Best::none();
-    let mut wide = Best::none();
-    let mut paste = Best::none();
-    let mut sum = 0usize;
-    for _ in 0..ROUNDS {
-        let start = Instant::now(rt)?;
-        let tiles = all_tiles(rt.alloc(), &map)?;
-        cut.note(start.elapsed(rt)?);
-        let start = Instant::now(rt)?;
-        sum = sum.wrapping_add(gather_all(rt.alloc(), &tiles, 1)?);
-        near.note(start.elapsed(rt)?);
-        let start = Instant::now(rt)?;
-        sum = sum.wrapping_add(gather_all(rt.alloc(), &tiles, 15)?);
-        wide.note(start.elapsed(rt)?);
-        let start = Instant::now(rt)?;
-        sum = sum.wrapping_add(paste_all(&tiles, into.as_mut_slice()));
-        paste.note(start.elapsed(rt)?);
-    }
-    let (cut, near) = (cut.nanoseconds(), near.nanoseconds());
-    let (wide, paste) = (wide.nanoseconds(), paste.nanoseconds());
-    println!(rt; "cut {cut}")?;
-    println!(rt; "near {near}")?;
-    println!(rt; "wide {wide}")?;
-    println!(rt; "paste {paste}")?;
-    println!(rt; "sum {sum}")?;
-    Ok(())
+    let rounds = time_rounds(rt, &map, into.as_mut_slice())?;
+    print_rounds(rt, &rounds)
 }

@@ -67,20 +67,30 @@ fn take_turns<R: Wait>(rt: &R, cell: &TurnCell<Tally>, seat: &mut TurnSeat<Tally
     number
 }
 
+// Times rounds of turns, and prints the best one.
+fn time_rounds<R: Clock + Print + Wait>(
+    rt: &R,
+    cell: &TurnCell<Tally>,
+    seat: &mut TurnSeat<Tally>,
+) -> Result<(), Fail>
+    requires cell { IsSeatOf cell.now seat.old }
+    requires author { authors_of seat.old ≡ 0 ∷ [] }
+{
+    let mut best = Best::none();
+    let mut sum = 0u64;
+    for _ in 0..ROUNDS {
+        let start = Instant::now(rt)?;
+        sum = sum.wrapping_add(take_turns(rt, cell, seat));
+        best.note(rt, start)?;
+    }
+    best.print_with(rt, "turn", sum)
+}
+
 /// Times turns, and prints the best round in nanoseconds.
 pub fn time_turns<R: Clock + Print + AllocGlobal + Wait>(rt: &R) -> Result<(), Fail> {
     let Ok((cell, mut seat)) = TurnCell::make(rt.alloc(), Tally { number: 0 }, 1) else {
         println!(rt; "no memory")?;
         return Ok(());
     };
-    let mut best = Best::none();
-    let mut sum = 0u64;
-    for _ in 0..ROUNDS {
-        let start = Instant::now(rt)?;
-        sum = sum.wrapping_add(take_turns(rt, &cell, &mut seat));
-        best.note(start.elapsed(rt)?);
-    }
-    let best = best.nanoseconds();
-    println!(rt; "turn {best} {sum}")?;
-    Ok(())
+    time_rounds(rt, &cell, &mut seat)
 }
