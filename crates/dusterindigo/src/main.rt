@@ -2,53 +2,75 @@
 //! ends with the status of the answer.
 #![tactic(auto)]
 
+ghost use Rattle.std.specs.Prelude.{◌≡◌, ◌⊎◌, map, drop, IfOk};
+ghost use Rattle.std.specs.Iterator.{Drains};
+ghost use Rattle.std.specs.String.{string_bytes};
+ghost use Rattle.std.specs.Vec.Iter.{into_iter_steps};
+ghost use Rattle.lue_run.specs.Lines.{status_of};
+ghost use Rattle.lue_run.specs.declared.ended.Ended.TheVariants.{Memory};
+ghost use Rattle.dusterindigo.specs.Statuses.{MayEndWith};
+
 use cell_values::Word;
-use lue_run::{lue_plain, status};
+use lue_run::{Ended, lue_plain, status};
 use outside_io::{FileFolder, StdSink};
-use std::env;
+use std::alloc::{AllocError, Global};
+use std::env::{self, Args};
 use std::io::ErrorKind;
 use std::process::ExitCode;
 use std::rt::{Env, Files};
 
-/// The status where memory was refused.
-const NO_MEMORY: u8 = 10;
-
-/// The status where the words cannot be had for another cause.
+/// The status where the words cannot be had, and not for want of memory.
 const NO_WORDS: u8 = 13;
 
-// The words after the program's name, or the status.
-fn words<R: Env + AllocGlobal>(rt: &R) -> Result<Vec<Word>, u8> {
-    let args = match env::args(rt) {
-        Ok(args) => args,
-        Err(error) => {
-            return Err(if error.kind() == ErrorKind::OutOfMemory {
-                NO_MEMORY
-            } else {
-                NO_WORDS
-            });
-        }
+// The words that follow the program's name, which is the first of the texts that are given.
+fn words_of(alloc: Global, mut args: Args) -> Result<Vec<Word>, AllocError>
+    ensures { IfOk result (λ words. (texts : _) × Drains into_iter_steps args texts × (words.items ≡ drop 1 (map string_bytes texts))) }
+{
+    let mut words = Vec::new(alloc);
+    let Some(_program) = args.next() else {
+        return Ok(words);
     };
-    let mut words = Vec::new(rt.alloc());
-    for arg in args.skip(1) {
-        let Ok(word) = Word::new(rt.alloc(), arg.as_bytes()) else {
-            return Err(NO_MEMORY);
-        };
-        if words.push(word).is_err() {
-            return Err(NO_MEMORY);
-        }
+    for arg in args {
+        words.push(Word::new(alloc, arg.as_bytes())?)?;
     }
     Ok(words)
 }
 
-// Does what the words ask for, and gives the status.
+// The status where the words cannot be had.
+fn without_words(kind: ErrorKind) -> u8
+    ensures { ((kind ≡ ErrorKind.OutOfMemory) × (result ≡ status_of Memory)) ⊎ ((kind ≡ ErrorKind.OutOfMemory → ⊥) × (result ≡ 13)) }
+{
+    match kind {
+        ErrorKind::OutOfMemory => status(&Ended::Memory),
+        _ => NO_WORDS,
+    }
+}
+
+// Does what the words ask for in the current folder, and gives the status of the answer.
+fn run_words<R: Files + Print + AllocGlobal>(rt: &R, words: &[Word]) -> u8
+    ensures { MayEndWith words.now result }
+{
+    let mut folder = FileFolder::here(rt);
+    let mut out = StdSink::new(rt);
+    status(&lue_plain(rt.alloc(), words, &mut folder, &mut out))
+}
+
+// Does what the words among the texts that are given ask for, and gives the status.
+fn run_texts<R: Files + Print + AllocGlobal>(rt: &R, args: Args) -> u8
+    ensures { (result ≡ status_of Memory)
+        ⊎ ((texts : _) × Drains into_iter_steps args texts × MayEndWith (drop 1 (map string_bytes texts)) result) }
+{
+    match words_of(rt.alloc(), args) {
+        Ok(words) => run_words(rt, &words),
+        Err(_) => status(&Ended::Memory),
+    }
+}
+
+// Does what the words of the command line ask for, and gives the status.
 fn run<R: Env + Files + Print + AllocGlobal>(rt: &R) -> u8 {
-    match words(rt) {
-        Ok(words) => {
-            let mut folder = FileFolder::here(rt);
-            let mut out = StdSink::new(rt);
-            status(&lue_plain(rt.alloc(), &words, &mut folder, &mut out))
-        }
-        Err(status) => status,
+    match env::args(rt) {
+        Ok(args) => run_texts(rt, args),
+        Err(error) => without_words(error.kind()),
     }
 }
 
