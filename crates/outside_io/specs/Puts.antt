@@ -1,7 +1,8 @@
 -- Files that are put one after the other.
-use Rattle.std.specs.Prelude.{List, Result}
+use Rattle.std.specs.Prelude.{List, Ok, Err, Result}
 use Rattle.outside_io.specs.Events.{Run}
 use Rattle.outside_io.specs.Runs.{putting, in_turn}
+use Rattle.outside_io.specs.Counts.{Counts, raised}
 use Rattle.outside_io.specs.Causes.{WriteFault, NoMemory, RunOutcome, CutOff, Why}
 use Rattle.outside_io.specs.declared.puts.NewFile.{NewFile}
 use Rattle.outside_io.specs.declared.puts.NotAllPut.{NotAllPut}
@@ -23,3 +24,9 @@ files_run files = in_turn file_run tt files
 abbrev pub outcome_of_put : NotAllPut → RunOutcome ⊥
 outcome_of_put (Failed file) = CutOff (WriteFault file.now.name.items)
 outcome_of_put Memory = CutOff NoMemory
+
+-- the counts of a folder after puts that came out so: one that failed raised that of such faults, and nothing else did
+abbrev pub after_puts : Counts → Result (Unit {0}) NotAllPut → Counts
+after_puts counts (Ok done) = counts
+after_puts counts (Err (Failed file)) = record counts { put_faults = raised counts.put_faults }
+after_puts counts (Err Memory) = counts

@@ -1,7 +1,7 @@
-ghost use Rattle.std.specs.Prelude.{◌≡◌, ◌⊎◌, ◌↔◌, ◌+◌, ◌<◌, ◌≤◌, length, take, Err, IfErr, IfOk, IfSome, Ok, IsErrOf, MatchOption, MatchResult};
+ghost use Rattle.std.specs.Prelude.{◌≡◌, ◌⊎◌, ◌↔◌, ◌+◌, ◌<◌, ◌≤◌, length, take, Err, IfErr, IfOk, IfSome, Ok, IsErrOf, MatchOption, MatchResult, OnOk};
 ghost use Rattle.std.specs.Fs.{IsFile, file_type, metadata_len};
 ghost use Rattle.std.specs.IoError.{error_kind};
-ghost use Rattle.std.specs.Io.KnownBytes.{Consumes, IsAtEnd, Keeps};
+ghost use Rattle.std.specs.Io.KnownBytes.{Appends, Consumes, IsAtEnd, Keeps};
 ghost use Rattle.outside_io.specs.State.{IsFound, ReadKeeps, IsPut, PutKeeps};
 ghost use Rattle.outside_io.specs.Refusals.{ReadRefused, PutRefused};
 ghost use Rattle.outside_io.specs.Counts.{counts_of, after_read, after_put};
@@ -10,7 +10,7 @@ ghost use Rattle.outside_io.specs.inside.Reading.{TakesAtMost};
 
 use crate::{Folder, PutEnd, ReadEnd};
 use std::alloc::{AllocError, Global};
-use std::io::{ErrorKind, Read};
+use std::io::{ErrorKind, Read, Write};
 use std::rt::Files;
 use std::{fs, io};
 
@@ -199,14 +199,15 @@ fn read_front<F: Read>(file: &mut F, room: &mut [u8], most: u64) -> Result<usize
 }
 
 // All bytes that a file has left, at most `limit` of them. There is room for `size` of them from the start, and a read
-// that fails is not tried again. Whatever comes, at most one byte beyond the limit is taken from the reader. One that
-// tells its bytes shows that none is lost.
+// that fails is not tried again. Whatever comes, at most one byte beyond the limit is taken from the reader, and none
+// where a fault is told. One that tells its bytes shows that none is lost.
 fn read_all<F: Read>(alloc: Global, file: &mut F, size: u64, limit: u64) -> Result<Vec<u8>, ReadEnd>
     ensures short { IfOk result (λ bytes. length bytes.items ≤ limit) }
     ensures whole { IfSome (F.remaining file.old) (λ rest. IfOk result (λ bytes. bytes.items ≡ rest)) }
     ensures long { IfSome (F.remaining file.old) (λ rest. IsErrOf result ReadEnd.TooLong → limit < length rest) }
     ensures there { IsErrOf result ReadEnd.Absent → ⊥ }
     ensures taken { TakesAtMost (F.remaining file.old) (F.remaining file.new) (limit + 1) }
+    ensures fault { IsErrOf result ReadEnd.Failed → TakesAtMost (F.remaining file.old) (F.remaining file.new) limit }
 {
     let most = limit.saturating_add(1);
     let mut room = room_for(alloc, CHUNK)?;
@@ -235,7 +236,17 @@ fn put_file<R: Files>(rt: &R, name: &[u8], bytes: &[u8]) -> Result<(), PutEnd>
         Err(error) if error.kind() == ErrorKind::NotFound => {}
         Err(error) => return Err(put_end(&error)),
     }
-    match fs::write(rt, path, bytes) {
+    match fs::create(rt, path) {
+        Ok(mut file) => write_whole(&mut file, bytes),
+        Err(error) => Err(put_end(&error)),
+    }
+}
+
+// Writes all bytes of a file. A writer that tells its bytes shows that they grew by all of these.
+fn write_whole<W: Write>(file: &mut W, bytes: &[u8]) -> Result<(), PutEnd>
+    ensures { OnOk result (Appends (W.contents file.old) (W.contents file.new) bytes.now) }
+{
+    match file.write_all(bytes) {
         Ok(()) => Ok(()),
         Err(error) => Err(put_end(&error)),
     }

@@ -1,6 +1,7 @@
 ghost use Rattle.std.specs.Prelude.{◌≡◌, MatchResult};
 ghost use Rattle.outside_io.specs.State.{FolderState, IsFound, ReadKeeps, IsPut, PutKeeps};
 ghost use Rattle.outside_io.specs.Refusals.{ReadRefused, PutRefused};
+ghost use Rattle.outside_io.specs.Counts.{counts_of, after_read, after_put};
 ghost use Rattle.outside_io.specs.declared.folder.ReadEnd.TheVariants as reads;
 ghost use Rattle.outside_io.specs.declared.folder.PutEnd.TheVariants as puts;
 
@@ -55,7 +56,7 @@ impl<T: Drop> From<AllocFailed<T>> for PutEnd {
 /// Files under names that are lists of bytes: all that a run reads and writes, but for its one line.
 ///
 /// Every failure raises a count: absent files, files beyond the limit, faults of reads and faults of puts.
-/// No count falls, and each stands still at its last value, 2^64 - 1.
+/// A call raises the count of its answer by one, and no other; each stands still at its last value, 2^64 - 1.
 pub trait Folder {
     /// What it tells: the files that it holds and the puts that succeeded, where it knows them, and its counts.
     ghost state: { Self → FolderState };
@@ -65,12 +66,14 @@ pub trait Folder {
         ensures answer { MatchResult result
             (λ bytes. IsFound (state self.old) name.now limit bytes.items)
             (ReadRefused (state self.old) (state self.new) name.now limit) }
-        ensures keeps { ReadKeeps (state self.old) (state self.new) };
+        ensures keeps { ReadKeeps (state self.old) (state self.new) }
+        ensures counts { counts_of (state self.new) ≡ after_read (counts_of (state self.old)) result };
 
     /// Sets the bytes of the file of that name, whether it was there or not.
     fn put(&mut self, alloc: Global, name: &[u8], bytes: &[u8]) -> Result<(), PutEnd>
         ensures answer { MatchResult result
             (λ _. IsPut (state self.old) (state self.new) name.now bytes.now)
             (PutRefused (state self.old) (state self.new) name.now) }
-        ensures keeps { PutKeeps (state self.old) (state self.new) };
+        ensures keeps { PutKeeps (state self.old) (state self.new) }
+        ensures counts { counts_of (state self.new) ≡ after_put (counts_of (state self.old)) result };
 }

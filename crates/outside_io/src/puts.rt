@@ -1,6 +1,8 @@
+ghost use Rattle.std.specs.Prelude.{◌≡◌};
 ghost use Rattle.outside_io.specs.Causes.{outcome_by, why_by};
+ghost use Rattle.outside_io.specs.Counts.{counts_of};
 ghost use Rattle.outside_io.specs.Met.{Meets};
-ghost use Rattle.outside_io.specs.Puts.{file_run, files_run, no_error, outcome_of_put};
+ghost use Rattle.outside_io.specs.Puts.{after_puts, file_run, files_run, no_error, outcome_of_put};
 
 use crate::{Folder, PutEnd};
 use std::alloc::Global;
@@ -27,7 +29,8 @@ fn put_one<'a, F: Folder>(
     folder: &mut F,
     file: &'a NewFile,
 ) -> Result<(), NotAllPut<'a>>
-    ensures { Meets (why_by no_error) (file_run tt file.now) (F.state folder.old) (F.state folder.new) (outcome_by outcome_of_put result) }
+    ensures meets { Meets (why_by no_error) (file_run tt file.now) (F.state folder.old) (F.state folder.new) (outcome_by outcome_of_put result) }
+    ensures counts { counts_of (F.state folder.new) ≡ after_puts (counts_of (F.state folder.old)) result }
 {
     match folder.put(alloc, file.name.as_slice(), file.bytes.as_slice()) {
         Ok(()) => Ok(()),
@@ -36,13 +39,14 @@ fn put_one<'a, F: Folder>(
     }
 }
 
-/// Puts files, in order, and stops at the first that is not put.
+/// Puts files, in order, and stops at the first that is not put. No file is tried twice.
 pub fn put_in_turn<'a, F: Folder>(
     alloc: Global,
     folder: &mut F,
     files: &'a [NewFile],
 ) -> Result<(), NotAllPut<'a>>
-    ensures { Meets (why_by no_error) (files_run files.now) (F.state folder.old) (F.state folder.new) (outcome_by outcome_of_put result) }
+    ensures meets { Meets (why_by no_error) (files_run files.now) (F.state folder.old) (F.state folder.new) (outcome_by outcome_of_put result) }
+    ensures counts { counts_of (F.state folder.new) ≡ after_puts (counts_of (F.state folder.old)) result }
 {
     for file in files {
         put_one(alloc, folder, file)?;

@@ -1,4 +1,5 @@
-ghost use Rattle.std.specs.Prelude.{◌≡◌, ◌≤◌, MatchResult};
+ghost use Rattle.std.specs.Prelude.{◌≡◌, ◌≤◌, MatchResult, OnOk};
+ghost use Rattle.std.specs.Io.KnownBytes.{Appends};
 ghost use Rattle.outside_io.specs.State.{Rose, Wrote, WroteFront};
 ghost use Rattle.outside_io.specs.Counts.{after_write};
 ghost use Rattle.outside_io.specs.StdSink.{std_sink_state};
@@ -34,10 +35,20 @@ impl<R: Print + Drop> Sink for StdSink<R> {
         ensures later { (std_sink_state self.old).faults ≤ (std_sink_state self.new).faults }
         ensures faults { (std_sink_state self.new).faults ≡ after_write (std_sink_state self.old).faults result }
     {
-        if io::writer(&self.rt).write_all(bytes).is_err() {
+        if write_piece(&mut io::writer(&self.rt), bytes).is_err() {
             self.faults = self.faults.saturating_add(1);
             return Err(SinkFailed);
         }
         Ok(())
+    }
+}
+
+// Writes a piece. A writer that tells its bytes shows that they grew by the whole piece.
+fn write_piece<W: Write>(out: &mut W, bytes: &[u8]) -> Result<(), SinkFailed>
+    ensures { OnOk result (Appends (W.contents out.old) (W.contents out.new) bytes.now) }
+{
+    match out.write_all(bytes) {
+        Ok(()) => Ok(()),
+        Err(_) => Err(SinkFailed),
     }
 }

@@ -5,8 +5,8 @@ use Rattle.outside_io.specs.Puts.{no_error}
 use Rattle.outside_io.proofs.MetLemmas.{meets_put_failed}
 use Rattle.outside_io.proofs.puts.put_one.Goals as goal
 
-pub returns-in-Err-Failed : goal.returns-in-Err-Failed
-returns-in-Err-Failed g c =
+pub returns-in-Err-Failed-clause-meets : goal.returns-in-Err-Failed-clause-meets
+returns-in-Err-Failed-clause-meets g c =
     let state = g.F.Folder.state in
     let old = state c.args.folder.now in
     let new = state c.put.new.self in
