@@ -58,14 +58,14 @@ followed_directed m q [] f h = cc (f, h)
 followed_directed m q (d ∷ behind) f h = cc (f.0, h)
 
 -- a cell with a direction leads on
-leads_of : (m : DrainMap) (q : ℕ) (n : Next) → next_at m q ≡ n → IsDirected m q → leads_on n ≡ true
+pub leads_of : (m : DrainMap) (q : ℕ) (n : Next) → next_at m q ≡ n → IsDirected m q → leads_on n ≡ true
 leads_of m q next.Pit e d = refl
 leads_of m q (next.Cell x) e d = refl
 leads_of m q next.Outside e d = refl
 leads_of m q next.Missing e d = absurd (d e)
 
 -- a test of nothing
-if_so-nothing : (o : Bool) → if_so o nothing ≡ nothing
+pub if_so-nothing : (o : Bool) → if_so o nothing ≡ nothing
 if_so-nothing true = refl
 if_so-nothing false = refl
 
@@ -117,7 +117,7 @@ abbrev pub all_places : DrainMap → List ℕ
 all_places m = range_with_len 0 (length m.codes)
 
 -- what one place of the map adds to a sum over those that pass a test
-from_one : (m : DrainMap) (test : ℕ → Bool) (q : ℕ) (x : Flow) → q < length m.codes → total_flow (map (λ u. if_so (test u) (if_so (q == u) x)) (all_places m)) ≡ if_so (test q) x
+pub from_one : (m : DrainMap) (test : ℕ → Bool) (q : ℕ) (x : Flow) → q < length m.codes → total_flow (map (λ u. if_so (test u) (if_so (q == u) x)) (all_places m)) ≡ if_so (test q) x
 from_one m test q x low =
     let pointwise : (u : ℕ) → if_so (test u) (if_so (q == u) x) ≡ if_so (q == u) (if_so (test q) x) = λ u. elim (eqb_tells q u) as (λ _. if_so (test u) (if_so (q == u) x) ≡ if_so (q == u) (if_so (test q) x)) [
       | inl same ↦ rw same.0 (ap (λ (y : ℕ). if_so (test y) x) (sym same.1))

@@ -6,4 +6,5 @@ pub mod MaskLemmas
 pub mod MissingLemmas
 pub mod PathLemmas
 pub mod SumLemmas
+pub mod ThresholdLemmas
 pub mod UnsoundLemmas

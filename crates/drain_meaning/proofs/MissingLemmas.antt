@@ -37,7 +37,8 @@ pub flow_of_missing : (kind : Kind) (f : Flow) → flow_outcome kind f ≡ Ok ce
 flow_of_missing kind flow.Mv e = refl
 flow_of_missing kind (flow.Num n) e = absurd (chosen_cell (is_value kind n) n (record {}) e)
 
-material_missing : (a : Cell) → material a ≡ flow.Mv → a ≡ cell.Mv
+-- a number is missing only where its cell is
+pub material_missing : (a : Cell) → material a ≡ flow.Mv → a ≡ cell.Mv
 material_missing cell.Mv e = refl
 material_missing (cell.Val n) e = cc e
 
@@ -59,7 +60,8 @@ together_missing : (x : Flow) → together x flow.Mv ≡ flow.Mv
 together_missing flow.Mv = refl
 together_missing (flow.Num n) = refl
 
-missing_of_two : (x y : Flow) → together x y ≡ flow.Mv → (x ≡ flow.Mv) ⊎ (y ≡ flow.Mv)
+-- two flows together are missing only where one of them is
+pub missing_of_two : (x y : Flow) → together x y ≡ flow.Mv → (x ≡ flow.Mv) ⊎ (y ≡ flow.Mv)
 missing_of_two flow.Mv y e = inl refl
 missing_of_two (flow.Num n) flow.Mv e = inr refl
 missing_of_two (flow.Num n) (flow.Num k) e = cc e

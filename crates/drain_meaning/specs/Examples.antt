@@ -55,6 +55,10 @@ around code = record { rows = 3; cols = 3; codes = cells_of_numbers (5 ∷ 5 ∷
 abbrev pub without_third : List Cell
 without_third = cells_of_numbers (1 ∷ 1 ∷ 0 ∷ 1 ∷ [])
 
+-- ones, and a missing value at the second of four cells
+abbrev pub missing_second : List Cell
+missing_second = Val (pos 1) ∷ Mv ∷ Val (pos 1) ∷ Val (pos 1) ∷ []
+
 -- two points, and two cells without one
 abbrev pub points : List Cell
 points = cells_of_numbers (1 ∷ 3 ∷ 0 ∷ 0 ∷ [])
@@ -96,6 +100,8 @@ pub record MapExamples : Type 0 where
   pub path : path_of winding 0 ≡ 0 ∷ 1 ∷ 2 ∷ 6 ∷ 5 ∷ 4 ∷ []
   -- a direction is kept, one into a cell that is not kept ends in a pit
   pub mask : (lddmask_of eastward (cell_at without_third)).codes ≡ Val (pos 6) ∷ Val (pos 5) ∷ Mv ∷ Val (pos 5) ∷ []
+  -- a missing mask keeps nothing
+  pub mask_missing : (lddmask_of eastward (cell_at missing_second)).codes ≡ Val (pos 5) ∷ Mv ∷ Val (pos 6) ∷ Val (pos 5) ∷ []
 
 -- what transports, and steps up and down stream, give
 pub record TransportExamples : Type 0 where
@@ -106,7 +112,7 @@ pub record TransportExamples : Type 0 where
   pub by_paths : map (accuflux_of winding (λ q. Val (pos 1))) (range_with_len 0 8)
       ≡ map flow_of_number (1 ∷ 2 ∷ 4 ∷ 1 ∷ 8 ∷ 7 ∷ 6 ∷ 1 ∷ [])
   -- a missing material makes all cells down the path missing
-  pub missing : (carried op.Accuflux Scalar eastward 4 (Val (pos 1) ∷ Mv ∷ Val (pos 1) ∷ Val (pos 1) ∷ []) []).cells
+  pub missing : (carried op.Accuflux Scalar eastward 4 missing_second []).cells
       ≡ Val (pos 1) ∷ Mv ∷ Mv ∷ Mv ∷ []
   -- the sum is judged at each cell: the second is out of range, and the third is not
   pub over : carried op.Accuflux Scalar short_eastward 3
@@ -116,6 +122,11 @@ pub record TransportExamples : Type 0 where
       ≡ whole_scalars (2 ∷ 1 ∷ 0 ∷ 0 ∷ [])
   pub state : (carried op.ThresholdState Scalar eastward 4 (whole_scalars (3 ∷ 0 ∷ 0 ∷ 0 ∷ [])) ones).cells
       ≡ whole_scalars (1 ∷ 1 ∷ 1 ∷ 0 ∷ [])
+  -- a missing threshold makes the cell and all cells down the path missing
+  pub flux_missing : (carried op.ThresholdFlux Scalar eastward 4 (whole_scalars (3 ∷ 0 ∷ 0 ∷ 0 ∷ [])) missing_second).cells
+      ≡ Val (pos 2999999) ∷ Mv ∷ Mv ∷ Mv ∷ []
+  pub state_missing : (carried op.ThresholdState Scalar eastward 4 (whole_scalars (3 ∷ 0 ∷ 0 ∷ 0 ∷ [])) missing_second).cells
+      ≡ Val (pos 1) ∷ Mv ∷ Mv ∷ Mv ∷ []
   -- runoff of rain over soils of two infiltrations
   pub runoff : (carried op.ThresholdFlux Scalar short_eastward 3 (whole_scalars (2 ∷ 2 ∷ 2 ∷ []))
       soils).cells ≡ Val (pos 1500000) ∷ Val (pos 1500000) ∷ Val (pos 3000000) ∷ []

@@ -1,5 +1,5 @@
 -- What holds of all sound drain maps.
-use Rattle.std.specs.Prelude.{◌≡◌, ◌↔◌, ◌⊎◌, ℕ, ◌<◌, List, ◌∷◌, length, map, Option, Some, None, Ok}
+use Rattle.std.specs.Prelude.{◌≡◌, ◌≢◌, ◌↔◌, ◌⊎◌, ℕ, ◌<◌, List, ◌∷◌, length, map, Option, Some, None, Ok}
 use Rattle.std.specs.List.{filter, range_with_len}
 use Rattle.cell_values.specs.declared.cell.Cell.{Cell}
 use Rattle.cell_values.specs.declared.cell.Cell.TheVariants as cell
@@ -12,7 +12,7 @@ use Rattle.drain_meaning.specs.declared.op.NearOp.TheVariants.{Upstream, Downstr
 use Rattle.drain_meaning.specs.Accumulation.{accuflux_of, catchment_of, is_pit}
 use Rattle.drain_meaning.specs.Drains.{DrainMap, IsDrainMap, next_at}
 use Rattle.drain_meaning.specs.Equations.{passing, transport_of}
-use Rattle.drain_meaning.specs.Flows.{material, total_flow}
+use Rattle.drain_meaning.specs.Flows.{material, together, total_flow}
 use Rattle.drain_meaning.specs.Masks.{lddmask_of, leads_on}
 use Rattle.drain_meaning.specs.Near.{near_outcome}
 use Rattle.drain_meaning.specs.Paths.{IsDirected, IsFirstUnsound, IsFollowedBy, IsSound, path_of}
@@ -51,6 +51,21 @@ KeepMass =
     (m : DrainMap) (a : ℕ → Cell) → IsSound m →
     let places = range_with_len 0 (length m.codes) in
     total_flow (map (accuflux_of m a) (filter (λ p. is_pit (next_at m p)) places))
+    ≡ total_flow (map (λ q. material (a q)) (filter (λ q. leads_on (next_at m q)) places))
+
+-- no operand of a cell with a direction is missing
+abbrev pub ArePresent : DrainMap → (ℕ → Cell) → (ℕ → Cell) → Type 0
+ArePresent m a b = (c : ℕ) → IsDirected m c → (a c ≢ cell.Mv) × (b c ≢ cell.Mv)
+
+-- Where no operand is missing, what thresholds keep in the cells of a sound map and what they let flow out of its pits make up
+-- the material of all cells with a direction.
+abbrev pub KeepOrLetPass : Type 0
+KeepOrLetPass =
+    (m : DrainMap) (a b : ℕ → Cell) → IsSound m → ArePresent m a b →
+    let places = range_with_len 0 (length m.codes) in
+    together
+    (total_flow (map (λ c. (end_of (transport_of op.ThresholdState) m a b c).result) (filter (λ c. leads_on (next_at m c)) places)))
+    (total_flow (map (λ p. (end_of (transport_of op.ThresholdFlux) m a b p).result) (filter (λ p. is_pit (next_at m p)) places)))
     ≡ total_flow (map (λ q. material (a q)) (filter (λ q. leads_on (next_at m q)) places))
 
 -- `catchment` is the point farthest down the path

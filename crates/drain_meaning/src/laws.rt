@@ -1,7 +1,7 @@
 //! What holds of all drain maps, in the subject's words.
 
 ghost use Rattle.drain_meaning.specs.Examples.{MapExamples, TransportExamples};
-ghost use Rattle.drain_meaning.specs.Laws.{AreTheOnlyEnds, ChooseOnPaths, FindTheFirstUnsound, KeepMass, ListTheirCells, MeetTheirEquation, StayInTheMap, StaySound, StepsAreMissing, SumOverPaths, TransportsAreMissing};
+ghost use Rattle.drain_meaning.specs.Laws.{AreTheOnlyEnds, ChooseOnPaths, FindTheFirstUnsound, KeepMass, KeepOrLetPass, ListTheirCells, MeetTheirEquation, StayInTheMap, StaySound, StepsAreMissing, SumOverPaths, TransportsAreMissing};
 
 /// Worked examples come out as they were worked out by hand.
 pub fn worked_examples_come_out()
@@ -39,6 +39,12 @@ pub fn accumulations_sum_over_paths()
 /// What comes together at the pits is the material of all cells with a direction, missing where one of these is.
 pub fn accumulations_keep_mass()
     ensures { KeepMass }
+{}
+
+/// What thresholds keep in the cells and what they let flow out of the pits are the material of all cells with a direction, where
+/// no operand is missing there.
+pub fn thresholds_keep_or_let_pass()
+    ensures { KeepOrLetPass }
 {}
 
 /// `catchment` is the last point of a path that is not 0, missing where one of the path's points is.

@@ -23,8 +23,8 @@ pub use flow::Flow;
 pub use laws::{
     accumulations_keep_mass, accumulations_sum_over_paths, catchments_choose_on_paths,
     directions_stay_in_the_map, masked_maps_stay_sound, missing_directions_give_missing_values,
-    paths_list_their_cells, the_first_unsound_place_is_found, transports_meet_their_equation,
-    worked_examples_come_out,
+    paths_list_their_cells, the_first_unsound_place_is_found, thresholds_keep_or_let_pass,
+    transports_meet_their_equation, worked_examples_come_out,
 };
 pub use next::{Next, next_cell};
 pub use op::{FlowOp, NearOp, Orient};

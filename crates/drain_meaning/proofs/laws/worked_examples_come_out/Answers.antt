@@ -15,6 +15,7 @@ returns-clause-maps c = record {
   border = refl;
   path = refl;
   mask = refl;
+  mask_missing = refl;
 }
 
 pub returns-clause-transports : goal.returns-clause-transports
@@ -27,6 +28,8 @@ returns-clause-transports c = record {
   over = refl;
   flux = refl;
   state = refl;
+  flux_missing = refl;
+  state_missing = refl;
   runoff = refl;
   less_runoff = refl;
   catchment = refl;
