@@ -6,13 +6,14 @@ ghost use Rattle.std.specs.Prelude.{◌≡◌, ◌⊎◌, map, drop, IfOk};
 ghost use Rattle.std.specs.Iterator.{Drains};
 ghost use Rattle.std.specs.String.{string_bytes};
 ghost use Rattle.std.specs.Vec.Iter.{into_iter_steps};
+ghost use Rattle.lue_run.specs.Answers.{call_of};
 ghost use Rattle.lue_run.specs.Lines.{status_of};
 ghost use Rattle.lue_run.specs.declared.ended.Ended.TheVariants.{Memory};
-ghost use Rattle.dusterindigo.specs.Statuses.{MayEndWith};
+ghost use Rattle.dusterindigo.specs.Statuses.{AnswersWith, IsStatus};
 
 use cell_values::Word;
 use lue_run::{Ended, lue_plain, status};
-use outside_io::{FileFolder, StdSink};
+use outside_io::{FileFolder, Folder, Sink, StdSink};
 use std::alloc::{AllocError, Global};
 use std::env::{self, Args};
 use std::io::ErrorKind;
@@ -46,30 +47,37 @@ fn without_words(kind: ErrorKind) -> u8
     }
 }
 
-// Does what the words ask for in the current folder, and gives the status of the answer.
-fn run_words<R: Files + Print + AllocGlobal>(rt: &R, words: &[Word]) -> u8
-    ensures { MayEndWith words.now result }
+// Does what the words ask for, in the folder, and gives the status of the answer.
+fn run_words<F: Folder, S: Sink>(alloc: Global, words: &[Word], folder: &mut F, out: &mut S) -> u8
+    ensures { AnswersWith (call_of words.now (F.state folder.old) (F.state folder.new) (S.state out.old) (S.state out.new)) result }
 {
-    let mut folder = FileFolder::here(rt);
-    let mut out = StdSink::new(rt);
-    status(&lue_plain(rt.alloc(), words, &mut folder, &mut out))
+    let answer = lue_plain(alloc, words, folder, out);
+    status(&answer)
 }
 
-// Does what the words among the texts that are given ask for, and gives the status.
-fn run_texts<R: Files + Print + AllocGlobal>(rt: &R, args: Args) -> u8
-    ensures { (result ≡ status_of Memory)
-        ⊎ ((texts : _) × Drains into_iter_steps args texts × MayEndWith (drop 1 (map string_bytes texts)) result) }
+// Does what the words among the texts that are given ask for, in the folder, and gives the status of the answer. Where
+// memory does not suffice for the words nothing is done.
+fn run_texts<F: Folder, S: Sink>(alloc: Global, args: Args, folder: &mut F, out: &mut S) -> u8
+    ensures { ((result ≡ status_of Memory) × (F.state folder.new ≡ F.state folder.old) × (S.state out.new ≡ S.state out.old))
+        ⊎ ((texts : _) × Drains into_iter_steps args texts
+        × AnswersWith (call_of (drop 1 (map string_bytes texts)) (F.state folder.old) (F.state folder.new) (S.state out.old) (S.state out.new)) result) }
 {
-    match words_of(rt.alloc(), args) {
-        Ok(words) => run_words(rt, &words),
+    match words_of(alloc, args) {
+        Ok(words) => run_words(alloc, &words, folder, out),
         Err(_) => status(&Ended::Memory),
     }
 }
 
-// Does what the words of the command line ask for, and gives the status.
-fn run<R: Env + Files + Print + AllocGlobal>(rt: &R) -> u8 {
+// Does what the words of the command line ask for, in the current folder, and gives the status.
+fn run<R: Env + Files + Print + AllocGlobal>(rt: &R) -> u8
+    ensures { IsStatus result }
+{
     match env::args(rt) {
-        Ok(args) => run_texts(rt, args),
+        Ok(args) => {
+            let mut folder = FileFolder::here(rt);
+            let mut out = StdSink::new(rt);
+            run_texts(rt.alloc(), args, &mut folder, &mut out)
+        }
         Err(error) => without_words(error.kind()),
     }
 }
