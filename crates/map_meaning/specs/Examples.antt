@@ -26,17 +26,18 @@ use Rattle.map_meaning.specs.declared.program.Operation.{Operation}
 use Rattle.map_meaning.specs.declared.program.Operand.TheVariants as from
 use Rattle.map_meaning.specs.declared.program.OutputKind.TheVariants.{InitialGrid}
 use Rattle.map_meaning.specs.declared.program.Program.{Program}
-use Rattle.map_meaning.specs.declared.program.Role.TheVariants.{Grid, Series, Stack}
+use Rattle.map_meaning.specs.declared.program.Role.TheVariants.{Grid, Series, Stack, Table}
 use Rattle.map_meaning.specs.declared.tree.Statement.{Statement}
 use Rattle.map_meaning.specs.declared.tree.Tree.{Tree}
 use Rattle.map_meaning.specs.declared.tree.Tree.TheVariants as tree
 use Rattle.map_meaning.specs.Local.{truth}
 use Rattle.map_meaning.specs.Rules.{Setting, no_series, no_table, of_kinds, outcome_of}
 use Rattle.map_meaning.specs.Table.{HasKinds, map_row, row_of}
-use Rattle.map_meaning.specs.Scenes.{Scene, setting_at}
+use Rattle.map_meaning.specs.Scenes.{Scene, setting_at, stack_map}
 use Rattle.map_meaning.specs.Sections.{After, section_value}
 use Rattle.map_meaning.specs.Spans.{stage_of, whole_span}
 use Rattle.map_meaning.specs.StackNames.{stack_file}
+use Rattle.map_meaning.specs.Trees.{value_of_tree}
 
 -- ---- an operation at the places of maps
 
@@ -161,12 +162,12 @@ pub record CellExamples : Type 0 where
 
 -- ---- a program of one sum, `report C = A + A;`, over a grid of two columns
 
--- its operation
-abbrev pub doubling : Operation
-doubling = record {
+-- the sum of an operand and the grid: an operation with this number in its statement, handed out or not
+abbrev pub plus_grid : Operand → ℕ → Bool → Operation
+plus_grid first number kept = record {
   op = op.Add;
   kind = Scalar;
-  a = from.Input 0;
+  a = first;
   b = from.Input 0;
   c = from.Unused;
   d = from.Unused;
@@ -174,35 +175,47 @@ doubling = record {
   file = 0;
   window = 0;
   statement = 1;
-  number = 1;
-  kept = true;
+  number = number;
+  kept = kept;
 }
 
--- the program
-abbrev pub doubled : Program
-doubled = record {
+-- the program of these sums, of which the one with this number is C
+abbrev pub sums_of : List Operation → ℕ → Program
+sums_of sums n = record {
   inputs = record { file = codes "a.asc"; role = Grid; kind = Scalar } ∷ [];
-  initial = doubling ∷ [];
+  initial = sums;
   dynamic = [];
   drains = [];
-  outputs = record { file = codes "C"; kind = InitialGrid; value = from.Initial 0; cell_kind = Scalar; statement = 1 } ∷ [];
+  outputs = record { file = codes "C"; kind = InitialGrid; value = from.Initial n; cell_kind = Scalar; statement = 1 } ∷ [];
   area = 0;
   steps = 0;
 }
 
--- what is known of its grid
-abbrev pub over_grid : List Cell → Known
-over_grid cells = record {
-  rows = 1;
+-- the program
+abbrev pub doubled : Program
+doubled = sums_of (plus_grid (from.Input 0) 1 true ∷ []) 0
+
+-- `report C = A + A + A;`, of which the second sum alone is handed out
+abbrev pub tripled : Program
+tripled = sums_of (plus_grid (from.Input 0) 1 false ∷ plus_grid (from.Initial 0) 2 true ∷ []) 1
+
+-- what is known of a grid of two columns and so many rows, and of tables
+abbrev pub of_grid : ℕ → List TableValue → List Cell → Known
+of_grid rows tables cells = record {
+  rows = rows;
   cols = 2;
   maps = cells ∷ [];
-  tables = [];
+  tables = tables;
   series = [];
   drains = [];
   stacks = [];
   initial = [];
   last = [];
 }
+
+-- what is known of its grid
+abbrev pub over_grid : List Cell → Known
+over_grid cells = of_grid 1 [] cells
 
 -- the Over of an operation of a statement at a step, in the second column
 abbrev pub over_in_column_two : ℕ → ℕ → ℕ → OverAt
@@ -214,17 +227,7 @@ too_much = whole_scalar 9000000000000
 
 -- what is known of a grid of two rows
 abbrev pub over_square : List Cell → Known
-over_square cells = record {
-  rows = 2;
-  cols = 2;
-  maps = cells ∷ [];
-  tables = [];
-  series = [];
-  drains = [];
-  stacks = [];
-  initial = [];
-  last = [];
-}
+over_square cells = of_grid 2 [] cells
 
 -- what its span gives
 pub record ProgramExamples : Type 0 where
@@ -237,6 +240,9 @@ pub record ProgramExamples : Type 0 where
   -- of two Overs in the second row the first is told
   pub below : (stage_of doubled (whole_span doubled) (over_square (whole_scalar 1 ∷ whole_scalar 2 ∷ too_much ∷ too_much ∷ []))).over
       ≡ Some (record { step = 0; statement = 1; operation = 1; row = 2; col = 1 })
+  -- 1 and 2 give 3 and 6: the map of the second sum, by its number, and of the first none
+  pub handed_out : stage_of tripled (whole_span tripled) (over_grid (whole_scalar 1 ∷ whole_scalar 2 ∷ []))
+      ≡ record { maps = record { step = 0; operation = 1; cells = whole_scalar 3 ∷ whole_scalar 6 ∷ [] } ∷ []; over = None }
 
 -- ---- statements over whole maps
 
@@ -265,6 +271,11 @@ unassigned name = []
 abbrev pub map_named : List ℕ → Result After OverAt → Result (List Cell) OverAt
 map_named name (Ok after) = Ok (after.names name)
 map_named name (Err at) = Err at
+
+-- the maps of the statements of a section
+abbrev pub maps_given : Result After OverAt → Result (List (List Cell)) OverAt
+maps_given (Ok after) = Ok after.maps
+maps_given (Err at) = Err at
 
 -- `C = A + A; D = C; C = C - A;`
 abbrev pub going_back : List Statement
@@ -297,6 +308,12 @@ pub record SectionExamples : Type 0 where
       ≡ Ok (whole_scalar 1 ∷ whole_scalar 2 ∷ [])
   pub above : map_named (codes "D") (section_value (scene_over 0 (whole_scalar 1) (whole_scalar 2)) 1 unassigned going_back)
       ≡ Ok (whole_scalar 2 ∷ whole_scalar 4 ∷ [])
+  -- each statement has its map
+  pub each : maps_given (section_value (scene_over 0 (whole_scalar 1) (whole_scalar 2)) 1 unassigned going_back)
+      ≡ Ok ((whole_scalar 2 ∷ whole_scalar 4 ∷ [])
+      ∷ (whole_scalar 2 ∷ whole_scalar 4 ∷ [])
+      ∷ (whole_scalar 1 ∷ whole_scalar 2 ∷ [])
+      ∷ [])
   -- over 1 and 9,000,000,000,000 at step 3 the sum, which is the second operation of its statement, is Over before the product
   pub first : map_named (codes "D") (section_value (scene_over 3 (whole_scalar 1) (whole_scalar 9000000000000)) 1 unassigned going_over)
       ≡ Err (over_in_column_two 3 2 2)
@@ -378,13 +395,14 @@ over_steps initial dynamic = record {
   steps = 3;
 }
 
--- the grid of one cell of a stack at a step
-abbrev pub stack_grid : ℕ → Cell → StepMap
-stack_grid step cell = record { step = step; operation = 2; cells = cell ∷ [] }
+-- the map of one cell of an operation at a step
+abbrev pub cell_at_step : ℕ → ℕ → Cell → StepMap
+cell_at_step step n cell = record { step = step; operation = n; cells = cell ∷ [] }
 
--- what is known: the id 1, a series of these values at steps 1 to 3, a stack of 5, missing and 7, and the map of `initial`
-abbrev pub over_cell : Cell → Cell → Cell → List StepMap → Known
-over_cell first second third initial = record {
+-- what is known: the id 1, a series of these values at steps 1 to 3, a stack of 5, missing and 7, and the maps of `initial` and
+-- of the step before
+abbrev pub over_cell_behind : Cell → Cell → Cell → List StepMap → List StepMap → Known
+over_cell_behind first second third initial last = record {
   rows = 1;
   cols = 1;
   maps = (Val (pos 1) ∷ []) ∷ [];
@@ -399,18 +417,30 @@ over_cell first second third initial = record {
             ∷ [];
       } ∷ [];
   drains = [];
-  stacks = stack_grid 1 (whole_scalar 5) ∷ stack_grid 2 Mv ∷ stack_grid 3 (whole_scalar 7) ∷ [];
+  stacks = cell_at_step 1 2 (whole_scalar 5) ∷ cell_at_step 2 2 Mv ∷ cell_at_step 3 2 (whole_scalar 7) ∷ [];
   initial = initial;
-  last = [];
+  last = last;
 }
+
+-- the same before step 1
+abbrev pub over_cell : Cell → Cell → Cell → List StepMap → Known
+over_cell first second third initial = over_cell_behind first second third initial []
 
 -- the map of one cell of an operation of `initial`
 abbrev pub begun_with : ℕ → Cell → StepMap
-begun_with n cell = record { step = 0; operation = n; cells = cell ∷ [] }
+begun_with n cell = cell_at_step 0 n cell
 
 -- A and B are 1
 abbrev pub begun_with_ones : List StepMap
 begun_with_ones = begun_with 0 (whole_scalar 1) ∷ begun_with 1 (whole_scalar 1) ∷ []
+
+-- A is 1, and B is 2
+abbrev pub begun_apart : List StepMap
+begun_apart = begun_with 0 (whole_scalar 1) ∷ begun_with 1 (whole_scalar 2) ∷ []
+
+-- behind step 1 B is 1, and A is 2
+abbrev pub behind_step_one : List StepMap
+behind_step_one = cell_at_step 1 1 (whole_scalar 1) ∷ cell_at_step 1 2 (whole_scalar 2) ∷ []
 
 -- S is 0
 abbrev pub begun_with_none : List StepMap
@@ -441,6 +471,11 @@ abbrev pub reading_steps : Program
 reading_steps =
     over_steps [] (kept_operation op.CopyOf (from.Stack 2) from.Unused 1 1 ∷ kept_operation op.CopyOf from.Time from.Unused 2 1 ∷ [])
 
+-- `initial S = 0; dynamic R = S;`
+abbrev pub staying : Program
+staying = over_steps (kept_operation op.CopyOf (from.Literal Scalar (whole_scalar 0)) from.Unused 1 1 ∷ [])
+    (kept_operation op.CopyOf (from.Initial 0) from.Unused 2 1 ∷ [])
+
 -- what the three steps give
 abbrev pub three_steps : Program → Known → StageEnd
 three_steps program known = stage_of program (span.Steps 1 3) known
@@ -450,6 +485,12 @@ pub record SpanExamples : Type 0 where
   -- X is 1, 1 and 2
   pub before : told_cells 0 (three_steps going_on (over_cell Mv Mv Mv begun_with_ones))
       ≡ (whole_scalar 1 ∷ []) ∷ (whole_scalar 1 ∷ []) ∷ (whole_scalar 2 ∷ []) ∷ []
+  -- where B begins with 2, X is 2, 1 and 2
+  pub apart : told_cells 0 (three_steps going_on (over_cell Mv Mv Mv begun_apart))
+      ≡ (whole_scalar 2 ∷ []) ∷ (whole_scalar 1 ∷ []) ∷ (whole_scalar 2 ∷ []) ∷ []
+  -- the last two of these steps, from what is known behind the first
+  pub later : told_cells 0 (stage_of going_on (span.Steps 2 3) (over_cell_behind Mv Mv Mv begun_apart behind_step_one))
+      ≡ (whole_scalar 1 ∷ []) ∷ (whole_scalar 2 ∷ []) ∷ []
   -- over a series of 1, 2 and 4 S is 1, 3 and 7
   pub summed : told_cells 1 (three_steps summing (over_cell (whole_scalar 1) (whole_scalar 2) (whole_scalar 4) begun_with_none))
       ≡ (whole_scalar 1 ∷ []) ∷ (whole_scalar 3 ∷ []) ∷ (whole_scalar 7 ∷ []) ∷ []
@@ -458,6 +499,11 @@ pub record SpanExamples : Type 0 where
       ≡ Some (record { step = 2; statement = 2; operation = 2; row = 1; col = 1 })
   pub told_before : told_cells 1 (three_steps summing (over_cell (whole_scalar 1) (whole_scalar 9000000000000) Mv begun_with_none))
       ≡ (whole_scalar 1 ∷ []) ∷ []
+  -- a map of `initial` is there at each step
+  pub stayed : told_cells 0 (three_steps staying (over_cell Mv Mv Mv begun_with_none))
+      ≡ (whole_scalar 0 ∷ []) ∷ (whole_scalar 0 ∷ []) ∷ (whole_scalar 0 ∷ []) ∷ []
+  -- each map is told with its step
+  pub by_steps : map (λ m. m.step) (three_steps staying (over_cell Mv Mv Mv begun_with_none)).maps ≡ 1 ∷ 2 ∷ 3 ∷ []
   -- the grids of the stack, and the numbers of the steps
   pub stacked : told_cells 0 (three_steps reading_steps (over_cell Mv Mv Mv []))
       ≡ (whole_scalar 5 ∷ []) ∷ (Mv ∷ []) ∷ (whole_scalar 7 ∷ []) ∷ []
@@ -553,6 +599,31 @@ abbrev pub scene_with_tables : Scene
 scene_with_tables =
     record { rows = 1; cols = 1; step = 0; inputs = []; tables = no_table ∷ from_ten ∷ []; series = []; stacks = [] }
 
+-- a scene with two stacks, at step 1
+abbrev pub scene_with_stacks : Scene
+scene_with_stacks = record {
+  rows = 1;
+  cols = 1;
+  step = 1;
+  inputs = [];
+  tables = [];
+  series = [];
+  stacks = cell_at_step 1 2 (whole_scalar 5) ∷ cell_at_step 1 3 (whole_scalar 7) ∷ [];
+}
+
+-- `report L = lookupscalar(T, N);`, where N has classes
+abbrev pub looking : Program
+looking = record {
+  inputs =
+      record { file = codes "n.asc"; role = Grid; kind = Nominal } ∷ record { file = codes "t.tbl"; role = Table 1; kind = Scalar } ∷ [];
+  initial = kept_operation op.LookupScalar (from.Input 0) from.Unused 1 1 ∷ [];
+  dynamic = [];
+  drains = [];
+  outputs = [];
+  area = 0;
+  steps = 0;
+}
+
 -- what lookups and series give
 pub record FileExamples : Type 0 where
   -- 10, 9.999999 and -1
@@ -579,6 +650,11 @@ pub record FileExamples : Type 0 where
       3 ≡ Val (pos 9) ∷ Mv ∷ Mv ∷ []
   -- an operation is told the table with the number that it names
   pub second_table : (setting_at scene_with_tables 1 0 (Scalar ∷ [])).table ≡ from_ten
+  -- so does an operation of a program, at the classes 10 and -1
+  pub in_program : stage_of looking (whole_span looking) (of_grid 1 (from_ten ∷ []) (Val (pos 10) ∷ below_zero 1 ∷ []))
+      ≡ record { maps = record { step = 0; operation = 0; cells = whole_scalar 2 ∷ Mv ∷ [] } ∷ []; over = None }
+  -- the grid of the stack with the number that is named
+  pub second_stack : stack_map scene_with_stacks 3 ≡ whole_scalar 7 ∷ []
   -- lookups and series of each kind
   pub found_boolean : looked_up_once op.LookupBoolean Boolean (pos 1) ≡ truth true ∷ Mv ∷ []
   pub found_nominal : looked_up_once op.LookupNominal Nominal (pos 5) ≡ Val (pos 5) ∷ Mv ∷ []
@@ -595,6 +671,38 @@ pub record FileExamples : Type 0 where
   pub later_file : stack_file (codes "q") 98765 ≡ codes "q0000098.765"
   pub short_file : stack_file (codes "abcdefgh") 12 ≡ codes "abcdefgh.012"
 
+-- ---- expressions
+
+-- the value of an expression in the first statement, where no name has a map
+abbrev pub value_in : Scene → Tree → Result (List Cell) OverAt
+value_in scene expression = value_of_tree (record { scene = scene; names = unassigned; statement = 1 }) expression
+
+-- a number
+abbrev pub written_number : Kind → Cell → Tree
+written_number kind cell = tree.Number kind cell
+
+-- the total of a window of this length
+abbrev pub total_of_window : ℕ → Tree → Tree
+total_of_window length operand = tree.CallWith Scalar op.WindowTotal 0 length (operand ∷ [])
+
+-- what expressions give
+pub record TreeExamples : Type 0 where
+  -- `time()` at step 3, and the grid of a stack
+  pub step : value_in (scene_at 3) tree.Time ≡ Ok (whole_scalar 3 ∷ [])
+  pub stack : value_in scene_with_stacks (tree.Stack Scalar 3) ≡ Ok (whole_scalar 7 ∷ [])
+  -- an operation is told the kinds of its operands: the scalar of the class 3
+  pub kinds : value_in (scene_at 0) (tree.Call Scalar op.ToScalar (written_number Nominal (Val (pos 3)) ∷ [])) ≡ Ok (whole_scalar 3 ∷ [])
+  -- and the table with the number that it names, at 10
+  pub table : value_in scene_with_tables (tree.CallWith Scalar op.LookupScalar 1 0 (written_number Scalar (whole_scalar 10) ∷ []))
+      ≡ Ok (whole_scalar 2 ∷ [])
+  -- such an operation counts behind its operands: `windowtotal(abs(A), 3)` over 1 and 9,000,000,000,000
+  pub behind : value_in (scene_over 0 (whole_scalar 1) too_much) (total_of_window 3 (tree.Call Scalar op.Abs (grid ∷ [])))
+      ≡ Err (record { step = 0; statement = 1; operation = 2; row = 1; col = 1 })
+  -- and before those that follow: `windowtotal(A, 1) * (A + A)`
+  pub before : value_in (scene_over 0 (whole_scalar 1) too_much)
+      (tree.Call Scalar op.Mul (total_of_window 1 grid ∷ tree.Call Scalar op.Add (grid ∷ grid ∷ []) ∷ []))
+      ≡ Err (over_in_column_two 0 1 2)
+
 -- ---- kinds
 
 -- what the table of operations allows
@@ -603,6 +711,10 @@ pub record KindExamples : Type 0 where
   pub chosen : HasKinds (row_of op.IfElse) (Boolean ∷ Nominal ∷ Nominal ∷ []) Nominal
   -- `min` takes what has an order
   pub least : HasKinds (row_of op.Min) (Ordinal ∷ Ordinal ∷ []) Ordinal
+  -- `min` of three operands is two operations
+  pub nested : HasKinds (row_of op.Min) (Ordinal ∷ Ordinal ∷ Ordinal ∷ []) Ordinal → ⊥
+  -- a transport without a word takes no operands
+  pub no_word : HasKinds (row_of (op.Flow flow.CapacityFlux)) (Nominal ∷ []) Nominal → ⊥
   -- the branches of `if` agree
   pub apart : HasKinds (row_of op.IfElse) (Boolean ∷ Nominal ∷ Ordinal ∷ []) Nominal → ⊥
   -- classes have no order

@@ -14,7 +14,9 @@ use Rattle.map_meaning.specs.declared.op.Op.{Op}
 use Rattle.map_meaning.specs.declared.op.Op.TheVariants as op
 use Rattle.map_meaning.specs.declared.known.Known.{Known}
 use Rattle.map_meaning.specs.declared.known.Span.TheVariants as span
+use Rattle.map_meaning.specs.declared.program.DrainFrom.{DrainFrom}
 use Rattle.map_meaning.specs.declared.program.DrainFrom.TheVariants as drain
+use Rattle.map_meaning.specs.declared.program.Operand.{Operand}
 use Rattle.map_meaning.specs.declared.program.Operand.TheVariants as from
 use Rattle.map_meaning.specs.declared.program.Operation.{Operation}
 use Rattle.map_meaning.specs.declared.program.Program.{Program}
@@ -22,9 +24,10 @@ use Rattle.map_meaning.specs.declared.program.Role.TheVariants.{Grid}
 use Rattle.map_meaning.specs.declared.tree.Statement.{Statement}
 use Rattle.map_meaning.specs.declared.tree.Tree.TheVariants as tree
 use Rattle.map_meaning.specs.Evaluation.{Done, drain_codes, nothing_done, staged_values}
-use Rattle.map_meaning.specs.Examples.{below_zero, map_named, unassigned, whole_scalar}
+use Rattle.map_meaning.specs.Examples.{below_zero, map_named, told_cells, unassigned, whole_scalar}
+use Rattle.map_meaning.specs.Programs.{stage_begin}
 use Rattle.map_meaning.specs.Rules.{Setting, no_series, no_table, outcome_of}
-use Rattle.map_meaning.specs.Scenes.{Scene}
+use Rattle.map_meaning.specs.Scenes.{Scene, masked_map}
 use Rattle.map_meaning.specs.Sections.{section_value}
 use Rattle.map_meaning.specs.Spans.{initial_stages, stage_of, whole_span}
 
@@ -94,6 +97,8 @@ pub record RegionExamples : Type 0 where
   pub window_maximum : row_of_cells op.WindowMaximum (Scalar ∷ []) 3 (with_a_gap ∷ []) 4 ≡ whole_scalars (5 ∷ 5 ∷ 4 ∷ 4 ∷ [])
   pub window_diversity : row_of_cells op.WindowDiversity (Nominal ∷ []) 3 (cells_of_numbers (1 ∷ 1 ∷ 2 ∷ 3 ∷ []) ∷ []) 4
       ≡ whole_scalars (1 ∷ 2 ∷ 3 ∷ 2 ∷ [])
+  -- windows of five cells
+  pub window_wide : row_of_cells op.WindowTotal (Scalar ∷ []) 5 (one_to_four ∷ []) 4 ≡ whole_scalars (6 ∷ 10 ∷ 10 ∷ 9 ∷ [])
   -- a window of one cell, and one without a value
   pub window_alone : row_of_cells op.WindowTotal (Scalar ∷ []) 1 (with_a_gap ∷ []) 4 ≡ with_a_gap
   -- of classes that are as frequent the least counts
@@ -115,6 +120,10 @@ pub record RegionExamples : Type 0 where
   pub area_majority : row_of_cells op.AreaMajority (Nominal ∷ Nominal ∷ []) 0
       (cells_of_numbers (7 ∷ 8 ∷ 9 ∷ 8 ∷ 9 ∷ []) ∷ cells_of_numbers (1 ∷ 2 ∷ 2 ∷ 2 ∷ 2 ∷ []) ∷ []) 5
       ≡ cells_of_numbers (7 ∷ 8 ∷ 8 ∷ 8 ∷ 8 ∷ [])
+  -- 1 2 3 and, below them, 4 5 6, of the classes 1 2 1 and 2 1 2
+  pub area_rows : square_of_cells op.AreaTotal (Scalar ∷ Nominal ∷ []) 0
+      (whole_scalars (1 ∷ 2 ∷ 3 ∷ 4 ∷ 5 ∷ 6 ∷ []) ∷ cells_of_numbers (1 ∷ 2 ∷ 1 ∷ 2 ∷ 1 ∷ 2 ∷ []) ∷ [])
+      ≡ whole_scalars (9 ∷ 12 ∷ 9 ∷ 12 ∷ 9 ∷ 12 ∷ [])
   -- an area without a value has no total, and the cell without a class is in no area
   pub area_total : row_of_cells op.AreaTotal (Scalar ∷ Nominal ∷ []) 0 (last_of_three ∷ two_of_three ∷ []) 3 ≡ none_of_three
   pub area_size : row_of_cells op.AreaArea (Nominal ∷ []) 0 (two_of_three ∷ []) 3 ≡ whole_scalar 2 ∷ whole_scalar 2 ∷ Mv ∷ []
@@ -144,6 +153,53 @@ three_at_first = whole_scalars (3 ∷ 0 ∷ 0 ∷ 0 ∷ [])
 abbrev pub along_eastward : Op → List Kind → List (List Cell) → List Cell
 along_eastward o kinds maps = row_of_cells o (Ldd ∷ kinds) 0 (codes_eastward ∷ maps) 4
 
+-- an accumulation of this operand along the drain map with this number, in this statement
+abbrev pub accumulation : Operand → ℕ → ℕ → Operation
+accumulation a n statement = record {
+  op = op.Flow flow.Accuflux;
+  kind = Scalar;
+  a = a;
+  b = from.Unused;
+  c = from.Unused;
+  d = from.Unused;
+  drain = n;
+  file = 0;
+  window = 0;
+  statement = statement;
+  number = 1;
+  kept = true;
+}
+
+-- a program of two steps, along a drain map that is an input
+abbrev pub flowing : Program
+flowing = record {
+  inputs = record { file = codes "ldd.asc"; role = Grid; kind = Ldd } ∷ [];
+  initial = [];
+  dynamic = accumulation from.Time 0 1 ∷ [];
+  drains = record { from = drain.Input 0; after = 0 } ∷ [];
+  outputs = [];
+  area = 0;
+  steps = 2;
+}
+
+-- the drain map of these codes in a row of four
+abbrev pub drain_in_a_row : List Cell → DrainMap
+drain_in_a_row cells = record { rows = 1; cols = 4; codes = cells }
+
+-- what is known of it: the codes, and the drain map
+abbrev pub known_eastward : Known
+known_eastward = record {
+  rows = 1;
+  cols = 4;
+  maps = codes_eastward ∷ [];
+  tables = [];
+  series = [];
+  drains = drain_in_a_row codes_eastward ∷ [];
+  stacks = [];
+  initial = [];
+  last = [];
+}
+
 -- what operations along drain directions give
 pub record AlongExamples : Type 0 where
   pub accuflux : along_eastward (op.Flow flow.Accuflux) (Scalar ∷ []) (four_ones ∷ []) ≡ one_to_four
@@ -157,6 +213,12 @@ pub record AlongExamples : Type 0 where
       ≡ whole_scalars (1 ∷ 1 ∷ 1 ∷ 0 ∷ [])
   pub upstream : along_eastward (op.Near near.Upstream) (Scalar ∷ []) (one_to_four ∷ []) ≡ whole_scalars (0 ∷ 1 ∷ 2 ∷ 3 ∷ [])
   pub downstream : along_eastward (op.Near near.Downstream) (Scalar ∷ []) (one_to_four ∷ []) ≡ whole_scalars (2 ∷ 3 ∷ 4 ∷ 4 ∷ [])
+  -- 6 2 4 and, below them, 5 4 4: all comes together in the first cell of the second row
+  pub rows : square_of_cells (op.Flow flow.Accuflux) (Ldd ∷ Scalar ∷ []) 0
+      (cells_of_numbers (6 ∷ 2 ∷ 4 ∷ 5 ∷ 4 ∷ 4 ∷ []) ∷ whole_scalars (1 ∷ 1 ∷ 1 ∷ 1 ∷ 1 ∷ 1 ∷ []) ∷ [])
+      ≡ whole_scalars (1 ∷ 3 ∷ 1 ∷ 6 ∷ 5 ∷ 1 ∷ [])
+  -- `dynamic Q = accuflux(Ldd, time());`, at steps 1 and 2
+  pub in_steps : told_cells 0 (stage_of flowing (span.Steps 1 2) known_eastward) ≡ one_to_four ∷ whole_scalars (2 ∷ 4 ∷ 6 ∷ 8 ∷ []) ∷ []
 
 -- ---- a mask between two stages: `B = not N; K = lddmask(Ldd, B); Q = accuflux(K, 1);`
 
@@ -195,43 +257,29 @@ masking = record {
 
 -- `Q = accuflux(K, 1)`, along the second drain map
 abbrev pub accumulating : Operation
-accumulating = record {
-  op = op.Flow flow.Accuflux;
-  kind = Scalar;
-  a = from.Literal Scalar (whole_scalar 1);
-  b = from.Unused;
-  c = from.Unused;
-  d = from.Unused;
-  drain = 1;
-  file = 0;
-  window = 0;
-  statement = 3;
-  number = 1;
-  kept = true;
-}
+accumulating = accumulation (from.Literal Scalar (whole_scalar 1)) 1 3
 
--- the program of the three statements
-abbrev pub over_mask : Program
-over_mask = record {
+-- the program of the three statements, where the second drain map comes from there
+abbrev pub with_second : DrainFrom → Program
+with_second second = record {
   inputs =
       record { file = codes "ldd.asc"; role = Grid; kind = Ldd } ∷ record { file = codes "n.asc"; role = Grid; kind = Boolean } ∷ [];
   initial = masking ∷ accumulating ∷ [];
   dynamic = [];
-  drains =
-      record { from = drain.Input 0; after = 0 } ∷ record { from = drain.Mask 0 (from.Initial 0); after = 1 } ∷ [];
+  drains = record { from = drain.Input 0; after = 0 } ∷ record { from = second; after = 1 } ∷ [];
   outputs = [];
   area = 0;
   steps = 0;
 }
 
+-- the program of the three statements
+abbrev pub over_mask : Program
+over_mask = with_second (drain.Mask 0 (from.Initial 0))
+
 -- a row of four columns, with the two inputs
 abbrev pub row_scene : Scene
 row_scene =
     record { rows = 1; cols = 4; step = 0; inputs = codes_eastward ∷ third_alone ∷ []; tables = []; series = []; stacks = [] }
-
--- the drain map of these codes in the row
-abbrev pub drain_in_a_row : List Cell → DrainMap
-drain_in_a_row cells = record { rows = 1; cols = 4; codes = cells }
 
 -- what is known before the second stage: the inputs, the map of B, and both drain maps
 abbrev pub known_behind_mask : Known
@@ -266,6 +314,8 @@ done_behind_mask = record { initial = all_but_third ∷ []; dynamic = []; last =
 pub record MaskExamples : Type 0 where
   -- the mask ends the first of two stages
   pub stages : initial_stages over_mask ≡ span.Initial 0 1 ∷ span.Initial 1 2 ∷ []
+  -- the first operation stands in the stage that begins with it, and so does the second
+  pub begins : map (stage_begin over_mask.drains) (0 ∷ 1 ∷ 2 ∷ []) ≡ 0 ∷ 1 ∷ 1 ∷ []
   -- all operations, with the drain maps between them
   pub staged : staged_values over_mask row_scene (whole_span over_mask) nothing_done over_mask.drains over_mask.initial
       ≡ Ok (record {
@@ -277,10 +327,20 @@ pub record MaskExamples : Type 0 where
   -- the second stage alone, from what is known before it
   pub second : stage_of over_mask (span.Initial 1 2) known_behind_mask
       ≡ record { maps = record { step = 0; operation = 1; cells = flows_masked } ∷ []; over = None }
+  -- the codes of an input
+  pub codes_read : drain_codes row_scene done_behind_mask (drain.Input 1) ≡ third_alone
   -- a drain map under another name
   pub same : drain_codes row_scene done_behind_mask (drain.Same 1) ≡ codes_masked
   -- a mask of the second drain map: the pit stays
   pub again : drain_codes row_scene done_behind_mask (drain.Mask 1 (from.Initial 0)) ≡ codes_masked
+  -- masks that are an input and a number: the third cell alone, and all
+  pub by_input : drain_codes row_scene done_behind_mask (drain.Mask 0 (from.Input 1)) ≡ Mv ∷ Mv ∷ Val (pos 5) ∷ Mv ∷ []
+  pub by_number : drain_codes row_scene done_behind_mask (drain.Mask 0 (from.Literal Boolean (Val (pos 1)))) ≡ codes_eastward
+  -- over two rows of one column: where the second is not kept, the first is a pit
+  pub below : masked_map (record { rows = 2; cols = 1; step = 0; inputs = []; tables = []; series = []; stacks = [] })
+      (cells_of_numbers (2 ∷ 5 ∷ [])) (cells_of_numbers (1 ∷ 0 ∷ [])) ≡ Val (pos 5) ∷ Mv ∷ []
+  -- another name for a drain map ends a stage too
+  pub renamed : initial_stages (with_second (drain.Same 0)) ≡ span.Initial 0 1 ∷ span.Initial 1 2 ∷ []
   -- the same by the statements
   pub drains : map_named (codes "K") (section_value row_scene 1 unassigned statements_over_mask) ≡ Ok codes_masked
   pub flows : map_named (codes "Q") (section_value row_scene 1 unassigned statements_over_mask) ≡ Ok flows_masked

@@ -1,7 +1,10 @@
 -- Worked examples: the table of operations, a line for each row.
-use Rattle.std.specs.Prelude.{◌≡◌, ℕ, ◌+◌, ◌==◌, nat_lt, Bool, true, false, if◌then◌else◌, List, [], ◌∷◌, ◌++◌, map, codes, zero, suc}
+use Rattle.std.specs.Prelude.{◌≡◌, ℕ, ◌+◌, ◌==◌, nat_lt, Bool, true, false, ◌&&◌, not, if◌then◌else◌}
+use Rattle.std.specs.Prelude.{List, [], ◌∷◌, ◌++◌, map, codes, zero, suc}
+use Rattle.std.specs.List.{filter}
 use Rattle.cell_values.specs.declared.kind.Kind.{Kind}
 use Rattle.cell_values.specs.declared.kind.Kind.TheVariants.{Boolean, Nominal, Ordinal, Scalar, Directional, Ldd}
+use Rattle.map_meaning.specs.declared.op.Op.{Op}
 use Rattle.map_meaning.specs.declared.op.Op.TheVariants as op
 use Rattle.map_meaning.specs.declared.row.Ask.{Ask}
 use Rattle.map_meaning.specs.declared.row.Ask.TheVariants as ask
@@ -14,7 +17,9 @@ use Rattle.map_meaning.specs.declared.row.Row.{Row}
 use Rattle.map_meaning.specs.declared.row.Stands.{Stands}
 use Rattle.map_meaning.specs.declared.row.Stands.TheVariants.{Anywhere, Dynamic, Sample, Mask}
 use Rattle.map_meaning.specs.declared.table.TheConstants.{COPY, MANY_OPERANDS}
-use Rattle.map_meaning.specs.Table.{ask_at, is_window_length, row_of, table_rows, takes}
+use Rattle.map_meaning.specs.Missing.{spreads_missing}
+use Rattle.map_meaning.specs.Overs.{may_be_over}
+use Rattle.map_meaning.specs.Table.{ask_at, goes_along_drains, is_focal, is_window_length, map_row, row_of, table_rows, takes}
 
 -- a word without the blanks behind it
 abbrev pub without_blanks : List ℕ → List ℕ
@@ -90,6 +95,16 @@ line_of_row one =
     without_blanks one.word ++ codes "(" ++ asked_from one 0 one.least ++ asked_behind one ++ codes ") " ++ given_letter one.gives
     ++ stands_where one.stands ++ means_what one.meant
 
+-- a word means an operation that passes a test
+abbrev pub means_one : (Op → Bool) → Meant → Bool
+means_one test (meant.Op o) = test o
+means_one test _ = false
+
+-- the words of the operations that pass a test and have more than so many operands over maps
+abbrev pub words_where : ℕ → (Op → Bool) → List (List ℕ)
+words_where i test =
+    map (λ row. without_blanks row.word) (filter (λ row. means_one test row.meant && nat_lt i (map_row row).least) table_rows)
+
 -- the table, line by line
 pub record TableExamples : Type 0 where
   pub rows : map line_of_row table_rows
@@ -123,6 +138,30 @@ pub record TableExamples : Type 0 where
       ∷ codes "accuflux(L, S) S" ∷ codes "accuthresholdflux(L, S, S) S" ∷ codes "accuthresholdstate(L, S, S) S"
       ∷ codes "catchment(L, BNO) 2"
       ∷ codes "lddmask(L, B) L mask: a mask"
+      ∷ []
+  -- the operations of which the first operand may be missing and the result be there, and those of which the second and the third may
+  pub first_missing : words_where 0 (λ o. not (spreads_missing o 0))
+      ≡ codes "cover" ∷ codes "defined"
+      ∷ codes "windowtotal" ∷ codes "windowaverage" ∷ codes "windowminimum" ∷ codes "windowmaximum" ∷ codes "windowdiversity"
+      ∷ codes "windowmajority" ∷ codes "areatotal" ∷ codes "areaaverage" ∷ codes "areaminimum" ∷ codes "areamaximum"
+      ∷ codes "areadiversity" ∷ codes "areamajority" ∷ codes "maptotal" ∷ codes "mapminimum" ∷ codes "mapmaximum"
+      ∷ []
+  pub second_missing : words_where 1 (λ o. not (spreads_missing o 1))
+      ≡ codes "if" ∷ codes "cover" ∷ codes "upstream" ∷ codes "downstream" ∷ []
+  pub third_missing : words_where 2 (λ o. not (spreads_missing o 2)) ≡ codes "if" ∷ []
+  -- those of which the result may be out of range
+  pub out_of_range : words_where 0 may_be_over
+      ≡ codes "+" ∷ codes "-" ∷ codes "*" ∷ codes "/" ∷ codes "idiv" ∷ codes "nominal" ∷ codes "ordinal" ∷ codes "windowtotal"
+      ∷ codes "areatotal" ∷ codes "maptotal" ∷ codes "upstream" ∷ codes "accuflux" ∷ codes "accuthresholdflux"
+      ∷ []
+  -- those over windows, and those along drain directions
+  pub windows : words_where 0 is_focal
+      ≡ codes "windowtotal" ∷ codes "windowaverage" ∷ codes "windowminimum" ∷ codes "windowmaximum" ∷ codes "windowdiversity"
+      ∷ codes "windowmajority"
+      ∷ []
+  pub along_drains : words_where 0 goes_along_drains
+      ≡ codes "upstream" ∷ codes "downstream" ∷ codes "accuflux" ∷ codes "accuthresholdflux" ∷ codes "accuthresholdstate"
+      ∷ codes "catchment"
       ∷ []
   -- the copy has no word
   pub copy : line_of_row COPY ≡ codes "(BNOSD) 1"

@@ -1,6 +1,6 @@
 //! What holds of every model, in the subject's words.
 
-ghost use Rattle.map_meaning.specs.Examples.{CellExamples, FileExamples, KindExamples, ProgramExamples, SectionExamples, SpanExamples, StepExamples};
+ghost use Rattle.map_meaning.specs.Examples.{CellExamples, FileExamples, KindExamples, ProgramExamples, SectionExamples, SpanExamples, StepExamples, TreeExamples};
 ghost use Rattle.map_meaning.specs.OverExamples.{OverExamples};
 ghost use Rattle.map_meaning.specs.PlaceExamples.{AlongExamples, MaskExamples, RegionExamples};
 ghost use Rattle.map_meaning.specs.TableExamples.{TableExamples};
@@ -15,6 +15,7 @@ pub fn worked_examples_come_out()
     ensures programs { ProgramExamples }
     ensures sections { SectionExamples }
     ensures files { FileExamples }
+    ensures trees { TreeExamples }
     ensures steps { StepExamples }
     ensures spans { SpanExamples }
     ensures regions { RegionExamples }

@@ -21,7 +21,7 @@ use Rattle.map_meaning.specs.declared.tree.Tree.{Tree}
 use Rattle.map_meaning.specs.declared.tree.Tree.TheVariants as tree
 use Rattle.map_meaning.specs.declared.tree.Tree.TheOpen.{Tree-F}
 use Rattle.map_meaning.specs.Evaluation.{operation_part}
-use Rattle.map_meaning.specs.Examples.{after_beginning, after_step, grid, map_named, named, scene_at, scene_over, statement, unassigned, unit, whole_scalar}
+use Rattle.map_meaning.specs.Examples.{after_beginning, after_step, grid, map_named, maps_given, named, scene_at, scene_over, scene_with_stacks, scene_with_tables, statement, too_much, total_of_window, unassigned, unit, value_in, whole_scalar, written_number}
 use Rattle.map_meaning.specs.declared.tree.Statement.{Statement}
 use Rattle.map_meaning.specs.Scenes.{Scene}
 use Rattle.map_meaning.specs.Sections.{After, after_statements, assigned}
@@ -29,7 +29,7 @@ use Rattle.map_meaning.specs.Rules.{rule_of, kind_at}
 use Rattle.map_meaning.specs.Spans.{stage_of}
 use Rattle.map_meaning.specs.Table.{HasKinds, table_rows, allows, ask_at, common_kind, map_row, row_of}
 use Rattle.map_meaning.specs.Trees.{Environment, TreeMeaning, meaning_of, meaning_level}
-use Rattle.map_meaning.proofs.Callers.{after_statements-map, after_statements-over, meaning_of-Call, meaning_of-CallWith, meaning_of-Input, meaning_of-Mask, meaning_of-Name, meaning_of-Number}
+use Rattle.map_meaning.proofs.Callers.{after_statements-map, after_statements-over, meaning_of-Call, meaning_of-CallWith, meaning_of-Input, meaning_of-Mask, meaning_of-Name, meaning_of-Number, meaning_of-Stack, meaning_of-Time}
 use Rattle.map_meaning.proofs.laws.worked_examples_come_out.Goals as goal
 
 pub returns-clause-cells : goal.returns-clause-cells
@@ -124,6 +124,14 @@ two_keys = record {
   gives = refl;
 }
 
+nested : HasKinds (row_of op.Min) (Ordinal ∷ Ordinal ∷ Ordinal ∷ []) Ordinal → ⊥
+unfolding row_of
+nested h = let e : false ≡ true = h.count in cc
+
+no_word : HasKinds (row_of (op.Flow flow.CapacityFlux)) (Nominal ∷ []) Nominal → ⊥
+unfolding row_of
+no_word h = let e : false ≡ true = h.count in cc
+
 no_key : HasKinds (map_row (row_of op.LookupScalar)) [] Scalar → ⊥
 unfolding row_of
 no_key h = let e : false ≡ true = h.count in cc
@@ -157,11 +165,22 @@ unfolding row_of
 no_directions h = let e : false ≡ true = h.each 0 (omega arith) in cc
 
 pub returns-clause-kinds : goal.returns-clause-kinds
-returns-clause-kinds c = record { chosen = chosen; least = least; apart = apart; unordered = unordered; two_keys = two_keys; no_key = no_key; no_ids = no_ids; one_map = one_map; no_area = no_area; of_points = of_points; no_directions = no_directions }
+returns-clause-kinds c = record { chosen = chosen; least = least; nested = nested; no_word = no_word; apart = apart; unordered = unordered; two_keys = two_keys; no_key = no_key; no_ids = no_ids; one_map = one_map; no_area = no_area; of_points = of_points; no_directions = no_directions }
 
 pub returns-clause-rows : goal.returns-clause-rows
 unfolding row_of table_rows
-returns-clause-rows c = record { rows = refl; copy = refl; many = refl; lengths = refl }
+returns-clause-rows c = record {
+  rows = refl;
+  first_missing = refl;
+  second_missing = refl;
+  third_missing = refl;
+  out_of_range = refl;
+  windows = refl;
+  along_drains = refl;
+  copy = refl;
+  many = refl;
+  lengths = refl;
+}
 
 pub returns-clause-overs : goal.returns-clause-overs
 unfolding rule_of nearest nearest_size window_outcome window_of grown places_of place_in area_result next_at next_of near_outcome equation_of end_of feeders
@@ -185,7 +204,7 @@ returns-clause-overs c = record {
 
 pub returns-clause-programs : goal.returns-clause-programs
 unfolding stage_of operation_part rule_of
-returns-clause-programs c = record { within = refl; beyond = refl; below = refl }
+returns-clause-programs c = record { within = refl; beyond = refl; below = refl; handed_out = refl }
 
 -- ---- statements
 
@@ -282,10 +301,10 @@ windowed =
     after_statements-map scene 1 start totals [] _ (Val (pos 3000000) ∷ Val (pos 3000000) ∷ []) (meaning_of-CallWith Scalar op.WindowTotal 0 3 (grid ∷ []) ∙ ap (λ m. meaning_level (Tree-F.CallWith Scalar op.WindowTotal 0 3 (m ∷ []))) grid_means) refl
 
 pub returns-clause-sections : goal.returns-clause-sections
-returns-clause-sections c = record { last = ap (map_named (codes "C")) ended; above = ap (map_named (codes "D")) ended; first = ap (map_named (codes "D")) over; behind = ap (map_named (codes "D")) over_second; told = ap (map_named (codes "W")) windowed }
+returns-clause-sections c = record { last = ap (map_named (codes "C")) ended; above = ap (map_named (codes "D")) ended; each = ap maps_given ended; first = ap (map_named (codes "D")) over; behind = ap (map_named (codes "D")) over_second; told = ap (map_named (codes "W")) windowed }
 
 pub returns-clause-files : goal.returns-clause-files
-unfolding rule_of
+unfolding stage_of operation_part rule_of
 returns-clause-files c = record {
   intervals = refl;
   classes = refl;
@@ -294,6 +313,8 @@ returns-clause-files c = record {
   missing_cell = refl;
   four_keys = refl;
   second_table = refl;
+  in_program = refl;
+  second_stack = refl;
   found_boolean = refl;
   found_nominal = refl;
   found_ordinal = refl;
@@ -309,9 +330,34 @@ returns-clause-files c = record {
   short_file = refl;
 }
 
+-- ---- expressions
+
+-- an expression gives what it means
+means : (scene : Scene) (expression : Tree) (m : TreeMeaning) → meaning_of expression ≡ m → value_in scene expression ≡ m.value (record { scene = scene; names = unassigned; statement = 1 }) 0
+means scene expression m h = ap (λ x. x.value (record { scene = scene; names = unassigned; statement = 1 }) 0) h
+
+-- an operation on one operand
+one_means : (o : Op) (x : Tree) (mx : TreeMeaning) → meaning_of x ≡ mx → meaning_of (tree.Call Scalar o (x ∷ [])) ≡ meaning_level (Tree-F.Call Scalar o (mx ∷ []))
+one_means o x mx hx = meaning_of-Call Scalar o (x ∷ []) ∙ ap (λ m. meaning_level (Tree-F.Call Scalar o (m ∷ []))) hx
+
+-- one that is told a file and a length
+told_means : (o : Op) (file window : ℕ) (x : Tree) (mx : TreeMeaning) → meaning_of x ≡ mx → meaning_of (tree.CallWith Scalar o file window (x ∷ [])) ≡ meaning_level (Tree-F.CallWith Scalar o file window (mx ∷ []))
+told_means o file window x mx hx = meaning_of-CallWith Scalar o file window (x ∷ []) ∙ ap (λ m. meaning_level (Tree-F.CallWith Scalar o file window (m ∷ []))) hx
+
+pub returns-clause-trees : goal.returns-clause-trees
+unfolding rule_of window_outcome window_of grown places_of place_in
+returns-clause-trees c = record {
+  step = means (scene_at 3) tree.Time _ meaning_of-Time;
+  stack = means scene_with_stacks (tree.Stack Scalar 3) _ (meaning_of-Stack Scalar 3);
+  kinds = means (scene_at 0) _ _ (one_means op.ToScalar (written_number Nominal (Val (pos 3))) _ (meaning_of-Number Nominal (Val (pos 3))));
+  table = means scene_with_tables _ _ (told_means op.LookupScalar 1 0 (written_number Scalar (whole_scalar 10)) _ (meaning_of-Number Scalar (whole_scalar 10)));
+  behind = means (scene_over 0 (whole_scalar 1) too_much) _ _ (told_means op.WindowTotal 0 3 _ _ (one_means op.Abs grid _ grid_means));
+  before = means (scene_over 0 (whole_scalar 1) too_much) _ _ (pair_means op.Mul (total_of_window 1 grid) doubled_grid _ _ (told_means op.WindowTotal 0 1 grid _ grid_means) (pair_means op.Add grid grid _ _ grid_means grid_means));
+}
+
 pub returns-clause-spans : goal.returns-clause-spans
 unfolding stage_of operation_part rule_of
-returns-clause-spans c = record { before = refl; summed = refl; over_from = refl; told_before = refl; stacked = refl; counted = refl }
+returns-clause-spans c = record { before = refl; apart = refl; later = refl; summed = refl; over_from = refl; told_before = refl; stayed = refl; by_steps = refl; stacked = refl; counted = refl }
 
 -- ---- statements at steps
 
@@ -399,6 +445,7 @@ returns-clause-regions c = record {
   window_minimum = refl;
   window_maximum = refl;
   window_diversity = refl;
+  window_wide = refl;
   window_alone = refl;
   window_majority = refl;
   area_average = refl;
@@ -407,6 +454,7 @@ returns-clause-regions c = record {
   area_sums = refl;
   area_diversity = refl;
   area_majority = refl;
+  area_rows = refl;
   area_total = refl;
   area_size = refl;
   map_total = refl;
@@ -417,8 +465,8 @@ returns-clause-regions c = record {
 -- ---- drain directions
 
 pub returns-clause-drains : goal.returns-clause-drains
-unfolding rule_of next_at next_of near_outcome equation_of end_of feeders
-returns-clause-drains c = record { accuflux = refl; catchment = refl; flux = refl; state = refl; upstream = refl; downstream = refl }
+unfolding stage_of operation_part rule_of next_at next_of near_outcome equation_of end_of feeders
+returns-clause-drains c = record { accuflux = refl; catchment = refl; flux = refl; state = refl; upstream = refl; downstream = refl; rows = refl; in_steps = refl }
 
 -- ---- a mask between two stages
 
@@ -458,10 +506,16 @@ pub returns-clause-masks : goal.returns-clause-masks
 unfolding stage_of operation_part rule_of next_at next_of equation_of end_of feeders lddmask_of
 returns-clause-masks c = record {
   stages = refl;
+  begins = refl;
   staged = refl;
   second = refl;
+  codes_read = refl;
   same = refl;
   again = refl;
+  by_input = refl;
+  by_number = refl;
+  below = refl;
+  renamed = refl;
   drains = ap (map_named (codes "K")) masked_end;
   flows = ap (map_named (codes "Q")) masked_end;
 }
