@@ -81,17 +81,18 @@ script_checked : (script : Script) (lines : List Line) → meaning script ≡ Ok
 unfolding checked_script
 script_checked script lines meant = ap (or_meaning script) meant
 
--- the program of a script that was read
-pub program_made : (name : List ℕ) (script : Script) (old mid : FolderState) (r : Result Program Stop) → IfOk r (IsLowered script) → IfErr r (StopsAt (checked_script script)) →
-    Meets (why_by why) (text_run name) old mid (CameTo (Ok script)) → MakesFor IsProgramFor (checked_run name) old mid r
-program_made name script old mid (Ok program) lowered stops m =
+-- the program of a script that was read, by what holds it
+pub program_made : {Y : Type 0} (held : Y → Program) (name : List ℕ) (script : Script) (old mid : FolderState) (r : Result Y Stop) →
+    IfOk r (λ y. IsLowered script (held y)) → IfErr r (StopsAt (checked_script script)) →
+    Meets (why_by why) (text_run name) old mid (CameTo (Ok script)) → MakesFor (λ s y. IsProgramFor s (held y)) (checked_run name) old mid r
+program_made held name script old mid (Ok program) lowered stops m =
     let s : CheckedScript = record { script = script; lines = lowered.lines } in (
       s,
       record { lowered = lowered; lines = refl },
       meets_on why (text_run name) after_text old mid mid script (CameTo (Ok s)) m
           (meets_settled (why_by why) (checked_script script) mid (CameTo (Ok s)) (script_checked script lowered.lines lowered.meant, refl)),
     )
-program_made name script old mid (Err at) lowered stops m =
+program_made held name script old mid (Err at) lowered stops m =
     meets_on why (text_run name) after_text old mid mid script (stopped_by (stop_outcome at)) m
     (meets_settled (why_by why) (checked_script script) mid (stopped_by (stop_outcome at)) stops)
 

@@ -60,7 +60,7 @@ pub enum SessionEnd {
 }
 
 /// Why the run of a script stopped before its end.
-#[derive(Debug, Drop)]
+#[derive(Drop)]
 pub enum Stop {
     /// There is no file of this name.
     Missing(Word),
@@ -99,7 +99,7 @@ impl<T: Drop> From<AllocFailed<T>> for Stop {
 }
 
 /// What a run that came to its end has done: the number of files put, and that of the last step.
-#[derive(Clone, Copy, Debug)]
+#[derive(Clone, Copy)]
 pub struct Tally {
     pub files: u64,
     pub steps: u32,

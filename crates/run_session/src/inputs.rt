@@ -9,7 +9,7 @@ ghost use Rattle.outside_io.specs.inside.Parts.{seen_by};
 ghost use Rattle.grid_text.specs.Form.{IsSize};
 ghost use Rattle.map_meaning.specs.declared.program.InputUse.{InputUse as TheInput};
 ghost use Rattle.map_meaning.specs.Programs.{IsWellFormed, SuitsRole};
-ghost use Rattle.run_session.specs.Course.{area_run, grid_input_run, input_by_role, inputs_run, nothing_given, numbered_input, one_more_input};
+ghost use Rattle.run_session.specs.Course.{area_run, frame_of, grid_input_run, input_by_role, inputs_run, nothing_given, numbered_input, one_more_input};
 ghost use Rattle.run_session.specs.inside.Parts.{AreSourcesOf, HasAreaMap, IsSource, Makes, area_grid, as_grid, given_of};
 
 use crate::drains::{Source, sound_source, source_twin};
@@ -21,7 +21,7 @@ use grid_text::Grid;
 use map_meaning::{InputUse, Map, Program, Role, SharedDrain, SharedSeries, SharedTable};
 use outside_io::Folder;
 use sqlite_items::Items;
-use std::alloc::Global;
+use std::alloc::{AllocError, Global};
 
 /// The area map.
 #[derive(Drop)]
@@ -51,20 +51,29 @@ pub struct Sources {
     pub drains: Items<Option<SharedDrain>>,
 }
 
-// Reads the area map.
-fn area_at<F: Folder>(alloc: Global, folder: &mut F, input: &InputUse) -> Result<Area, Stop>
-    ensures meets { Makes (area_run input.now) (F.state folder.old) (F.state folder.new) (seen_by as_grid result) }
-    ensures size { IfOk result (λ area. IsSize area.frame.rows area.frame.cols) }
-    ensures source { IfOk result (λ area. IsSource area.frame input.now area.source) }
+// The frame of a grid, and its map.
+fn framed(alloc: Global, grid: Grid) -> Result<(Frame, Map), AllocError>
+    ensures frame { IfOk result (λ both. both.0 ≡ frame_of grid) }
+    ensures cells { IfOk result (λ both. both.1 ≡ grid.cells) }
 {
     let Grid {
         rows,
         cols,
         head,
         cells,
-    } = grid_at(alloc, folder, input.kind, &input.file)?;
+    } = grid;
     let cells = Map::new(alloc, cells)?;
-    let frame = Frame { rows, cols, head };
+    Ok((Frame { rows, cols, head }, cells))
+}
+
+// Reads the area map.
+fn area_at<F: Folder>(alloc: Global, folder: &mut F, input: &InputUse) -> Result<Area, Stop>
+    ensures meets { Makes (area_run input.now) (F.state folder.old) (F.state folder.new) (seen_by as_grid result) }
+    ensures size { IfOk result (λ area. IsSize area.frame.rows area.frame.cols) }
+    ensures source { IfOk result (λ area. IsSource area.frame input.now area.source) }
+{
+    let grid = grid_at(alloc, folder, input.kind, &input.file)?;
+    let (frame, cells) = framed(alloc, grid)?;
     let source = sound_source(alloc, &frame, input, cells)?;
     Ok(Area { frame, source })
 }
@@ -191,6 +200,24 @@ fn read_input<F: Folder>(
     }
 }
 
+// Nothing is read yet but the area map.
+fn no_sources(alloc: Global, frame: Frame) -> Sources
+    requires { IsSize frame.rows frame.cols }
+    ensures frame { result.inputs.frame ≡ frame }
+    ensures given { given_of 0 result.inputs ≡ nothing_given }
+    ensures sources { AreSourcesOf [] result }
+{
+    Sources {
+        inputs: Inputs {
+            frame,
+            maps: Items::new(alloc),
+            tables: Items::new(alloc),
+            series: Items::new(alloc),
+        },
+        drains: Items::new(alloc),
+    }
+}
+
 // Reads the inputs, in their order.
 fn read_all<F: Folder>(
     alloc: Global,
@@ -208,15 +235,7 @@ fn read_all<F: Folder>(
     ensures frame { IfOk result (λ sources. sources.inputs.frame ≡ frame) }
     ensures sources { IfOk result (AreSourcesOf uses.now) }
 {
-    let mut sources = Sources {
-        inputs: Inputs {
-            frame,
-            maps: Items::new(alloc),
-            tables: Items::new(alloc),
-            series: Items::new(alloc),
-        },
-        drains: Items::new(alloc),
-    };
+    let mut sources = no_sources(alloc, frame);
     for n in 0..uses.len() {
         read_input(alloc, folder, number, area, n, &uses[n], &mut sources)?;
     }

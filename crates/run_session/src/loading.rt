@@ -25,7 +25,6 @@ pub fn load<F: Folder>(alloc: Global, folder: &mut F, name: &[u8]) -> Result<Rea
 {
     let program = read_program(alloc, folder, name)?;
     let sources = read_inputs(alloc, folder, &program)?;
-    let program = Arc::new(alloc, program)?;
     Ok(Ready {
         program,
         inputs: sources.inputs,

@@ -13,6 +13,7 @@ use outside_io::Folder;
 use script_syntax::{ReadScript, Script, read_script};
 use script_types::{LowerEnd, lower};
 use std::alloc::Global;
+use std::sync::Arc;
 use text_base::MOST_SCRIPT_BYTES;
 
 // The script of a text.
@@ -39,21 +40,25 @@ fn script_at<F: Folder>(alloc: Global, folder: &mut F, name: &[u8]) -> Result<Sc
 
 // The program of the script of this name.
 #[tactic(auto, unfolding(crate::specs::Course::checked_script))]
-fn program_of(alloc: Global, script: &Script) -> Result<Program, Stop>
+fn program_of(alloc: Global, script: &Script) -> Result<Arc<Program>, Stop>
     requires { IsWellMade script.now }
-    ensures lowered { IfOk result (IsLowered script.now) }
+    ensures lowered { IfOk result (λ program. IsLowered script.now program.value) }
     ensures stops { IfErr result (StopsAt (checked_script script.now)) }
 {
     match lower(alloc, script) {
-        Ok(program) => Ok(program),
+        Ok(program) => Ok(Arc::new(alloc, program)?),
         Err(LowerEnd::Meaning(fault)) => Err(Stop::Script(ScriptFault::Meaning(fault))),
         Err(LowerEnd::Memory) => Err(Stop::Memory),
     }
 }
 
 /// Reads a script, and gives its program. The script is let go.
-pub fn read_program<F: Folder>(alloc: Global, folder: &mut F, name: &[u8]) -> Result<Program, Stop>
-    ensures { MakesFor IsProgramFor (checked_run name.now) (F.state folder.old) (F.state folder.new) result }
+pub fn read_program<F: Folder>(
+    alloc: Global,
+    folder: &mut F,
+    name: &[u8],
+) -> Result<Arc<Program>, Stop>
+    ensures { MakesFor (λ s program. IsProgramFor s program.value) (checked_run name.now) (F.state folder.old) (F.state folder.new) result }
 {
     let script = script_at(alloc, folder, name)?;
     program_of(alloc, &script)

@@ -1,26 +1,22 @@
 ghost use Rattle.std.specs.Prelude.{◌≡◌, [], IfOk, OnOk};
 ghost use Rattle.script_syntax.specs.declared.tree.Script.{Script as TheScript};
 ghost use Rattle.outside_io.specs.Met.{Meets};
-ghost use Rattle.map_meaning.specs.Programs.{IsWellFormed};
 ghost use Rattle.run_session.specs.Asked.{CountsTasks, IfDone, WasAsked};
 ghost use Rattle.run_session.specs.Course.{Many, script_run, start_run, whole_run};
 ghost use Rattle.run_session.specs.Ends.{session_outcome, why};
-ghost use Rattle.run_session.specs.inside.Parts.{AreDrainsOf, AreInputsOf, Makes, stop_outcome};
+ghost use Rattle.run_session.specs.inside.Parts.{Makes, stop_outcome};
 ghost use Rattle.run_session.specs.inside.Running.{IsPrepared};
 ghost use Rattle.run_session.specs.inside.Standings.{program_plan};
 ghost use Rattle.run_session.specs.inside.Tallies.{HasRun, files_put, tally_of};
 
 use crate::ends::{SessionEnd, Stop, Tally};
 use crate::evaluating::admitted;
-use crate::inputs::Inputs;
-use crate::loading::{Ready, load};
+use crate::loading::load;
 use crate::start::{prepared, run_plan};
 use crate::work::Work;
-use map_meaning::{BlockRunner, Program, SharedDrain};
+use map_meaning::BlockRunner;
 use outside_io::Folder;
-use sqlite_items::Items;
 use std::alloc::Global;
-use std::sync::Arc;
 
 // What is done once a program is run to its end: each grid of `initial`, each stack at each step and each time series is put.
 fn tally(work: &Work) -> Tally
@@ -38,30 +34,31 @@ fn tally(work: &Work) -> Tally
     }
 }
 
-// Runs a program over its inputs, which are all read.
+// Runs what is prepared.
 fn run_start<F: Folder, R: BlockRunner>(
     alloc: Global,
     folder: &mut F,
     runner: &mut R,
-    program: Arc<Program>,
-    inputs: Inputs,
-    drains: Items<Option<SharedDrain>>,
+    work: &mut Work,
 ) -> Result<Tally, Stop>
     requires ready { R.ready runner.old }
-    requires program { IsWellFormed program.value }
-    requires inputs { AreInputsOf program.value.inputs inputs }
-    requires drains { AreDrainsOf inputs.frame program.value.inputs inputs.maps drains }
-    ensures meets { Makes (start_run (R.admits runner.old program.value inputs.frame.rows inputs.frame.cols) (program_plan program.value inputs))
-        (F.state folder.old) (F.state folder.new) result }
-    ensures run { IfOk result (λ tally. HasRun (R.asked runner.old) (R.asked runner.new) program.value inputs (F.state folder.old) (F.state folder.new)) }
+    requires work { IsPrepared work.old }
+    ensures meets { Makes (start_run (R.admits runner.old work.old.program.value work.old.inputs.frame.rows work.old.inputs.frame.cols)
+        (program_plan work.old.program.value work.old.inputs)) (F.state folder.old) (F.state folder.new) result }
+    ensures run { IfOk result (λ tally. HasRun (R.asked runner.old) (R.asked runner.new) work.old.program.value work.old.inputs
+        (F.state folder.old) (F.state folder.new)) }
     ensures ready { R.ready runner.new }
 {
-    admitted(runner, &program, inputs.frame.rows, inputs.frame.cols)?;
+    admitted(
+        runner,
+        &work.program,
+        work.inputs.frame.rows,
+        work.inputs.frame.cols,
+    )?;
     // A runner takes one step at least at a time, and is asked for one.
     let _block = runner.block();
-    let mut work = prepared(alloc, program, inputs, drains)?;
-    let done = tally(&work);
-    run_plan(alloc, folder, runner, &mut work)?;
+    let done = tally(work);
+    run_plan(alloc, folder, runner, work)?;
     Ok(done)
 }
 
@@ -79,12 +76,9 @@ fn run_named<F: Folder, R: BlockRunner>(
     ensures asked { let holds = (F.state folder.old).holds in
         R.asked runner.old [] → OnOk result (WasAsked (R.asked runner.new) name.now holds) }
 {
-    let Ready {
-        program,
-        inputs,
-        drains,
-    } = load(alloc, folder, name)?;
-    run_start(alloc, folder, runner, program, inputs, drains)
+    let ready = load(alloc, folder, name)?;
+    let mut work = prepared(alloc, ready)?;
+    run_start(alloc, folder, runner, &mut work)
 }
 
 // The answer for a stop.

@@ -8,7 +8,7 @@ ghost use Rattle.run_session.specs.inside.Running.{AsksAll, IsStart, IsPrepared}
 ghost use Rattle.run_session.specs.inside.Standings.{program_plan};
 
 use crate::ends::Stop;
-use crate::inputs::Inputs;
+use crate::loading::Ready;
 use crate::outputs::{begin_samples, first_grids, stack_grids};
 use crate::reports::put_reports;
 use crate::samples::put_samples;
@@ -16,33 +16,26 @@ use crate::stacks::stacks_among;
 use crate::stages::{StageMaps, run_stages};
 use crate::steps::run_on;
 use crate::work::{Work, let_go_of_inputs};
-use map_meaning::{BlockRunner, Program, SharedDrain};
+use map_meaning::BlockRunner;
 use outside_io::Folder;
-use sqlite_items::Items;
 use std::alloc::{AllocError, Global};
-use std::sync::Arc;
 
 /// What is run of a program over its inputs.
-pub fn prepared(
-    alloc: Global,
-    program: Arc<Program>,
-    inputs: Inputs,
-    drains: Items<Option<SharedDrain>>,
-) -> Result<Work, AllocError>
-    requires program { IsWellFormed program.value }
-    requires inputs { AreInputsOf program.value.inputs inputs }
-    requires drains { AreDrainsOf inputs.frame program.value.inputs inputs.maps drains }
+pub fn prepared(alloc: Global, ready: Ready) -> Result<Work, AllocError>
+    requires program { IsWellFormed ready.program.value }
+    requires inputs { AreInputsOf ready.program.value.inputs ready.inputs }
+    requires drains { AreDrainsOf ready.inputs.frame ready.program.value.inputs ready.inputs.maps ready.drains }
     ensures work { IfOk result IsPrepared }
-    ensures program { IfOk result (λ work. work.program.value ≡ program.value) }
-    ensures inputs { IfOk result (λ work. work.inputs ≡ inputs) }
+    ensures program { IfOk result (λ work. work.program.value ≡ ready.program.value) }
+    ensures inputs { IfOk result (λ work. work.inputs ≡ ready.inputs) }
 {
-    let stacks = stacks_among(alloc, program.inputs.as_slice())?;
-    let firsts = first_grids(alloc, program.outputs.as_slice())?;
-    let grids = stack_grids(alloc, program.outputs.as_slice())?;
+    let stacks = stacks_among(alloc, ready.program.inputs.as_slice())?;
+    let firsts = first_grids(alloc, ready.program.outputs.as_slice())?;
+    let grids = stack_grids(alloc, ready.program.outputs.as_slice())?;
     Ok(Work {
-        program,
-        inputs,
-        drains,
+        program: ready.program,
+        inputs: ready.inputs,
+        drains: ready.drains,
         stacks,
         firsts,
         grids,

@@ -1,18 +1,17 @@
 -- The ways out of what is read before the first step.
-use Rattle.std.proofs.Common.{◌≡◌, ℕ, List, refl, subst, sym}
+use Rattle.std.proofs.Common.{ℕ, List, refl, subst}
 use Rattle.std.specs.Prelude.{Ok, Result}
 use Rattle.outside_io.specs.State.{FolderState}
-use Rattle.outside_io.specs.Causes.{CameTo, CutOff, NoMemory, RunOutcome, why_by}
+use Rattle.outside_io.specs.Causes.{CameTo, RunOutcome, why_by}
 use Rattle.outside_io.specs.Met.{Meets}
-use Rattle.outside_io.proofs.Callers.{meets_no_memory, meets_on, meets_settled, meets_stop, read_keeps_all}
+use Rattle.outside_io.proofs.Callers.{meets_on, meets_settled, meets_stop}
 use Rattle.map_meaning.specs.declared.program.InputUse.{InputUse}
 use Rattle.map_meaning.specs.declared.program.Program.{Program}
 use Rattle.script_types.specs.Lowered.{area_number, inputs_of}
-use Rattle.run_session.specs.declared.ends.Stop.TheVariants.{Memory}
 use Rattle.run_session.specs.declared.inputs.Inputs.{Inputs}
 use Rattle.run_session.specs.Course.{CheckedScript, Loaded, checked_run, inputs_read, inputs_run, load_run}
 use Rattle.run_session.specs.Ends.{ScriptEnd, why}
-use Rattle.run_session.specs.inside.Parts.{AreDrainsOf, AreInputsOf, IsProgramFor, IsReady, stop_outcome}
+use Rattle.run_session.specs.inside.Parts.{AreSourcesOf, IsProgramFor, IsReady, stop_outcome}
 use Rattle.run_session.proofs.Rest.{after_inputs, makes_out}
 use Rattle.run_session.proofs.loading.load.Goals as goal
 
@@ -38,19 +37,7 @@ returns-in_err-sources g c =
     makes_out IsReady (load_run name) _ _ c.from_residual-in_err-sources.result _ c.from_residual-in_err-sources.ensures.1
     (meets_on why (checked_run name) inputs_read _ _ _ s _ made.2
     (meets_stop why (inputs_run (inputs_of s.script) (area_number s.script)) (after_inputs s) _ _ (stop_outcome _)
-    (after_script s c.in_ok-program.program _ _ _ made.1 c.in_err-sources.ensures.meets)))
-
-pub returns-in_err-program-2 : goal.returns-in_err-program-2
-returns-in_err-program-2 g c =
-    let name = c.args.name.now in
-    let made = c.in_ok-program.ensures in
-    let s = made.0 in
-    let inputs = c.in_ok-sources.sources.inputs in
-    makes_out IsReady (load_run name) _ _ c.from_residual-in_err-program-2.result Memory c.from_residual-in_err-program-2.ensures.1
-    (meets_on why (checked_run name) inputs_read _ _ _ s (CutOff NoMemory) made.2
-    (meets_on why (inputs_run (inputs_of s.script) (area_number s.script)) (after_inputs s) _ _ _ inputs (CutOff NoMemory)
-    (after_script s c.in_ok-program.program _ _ _ made.1 c.in_ok-sources.ensures.meets)
-    (meets_no_memory (why_by why) (after_inputs s inputs) _ _ (read_keeps_all _))))
+    (after_script s c.in_ok-program.program.value _ _ _ made.1 (rw c.deref.ensures at c.in_err-sources.ensures.meets))))
 
 pub returns : goal.returns
 returns g c =
@@ -59,17 +46,17 @@ returns g c =
     let made = c.in_ok-program.ensures in
     let s = made.0 in
     let inputs = c.in_ok-sources.sources.inputs in
-    let l : Loaded = record { script = s.script; lines = s.lines; inputs = inputs } in
-    let same : c.in_ok-program-2.program.value ≡ c.in_ok-program.program = c.in_ok-program-2.ensures.ok in (
+    let sources : AreSourcesOf c.in_ok-program.program.value.inputs c.in_ok-sources.sources = rw c.deref.ensures at c.in_ok-sources.ensures.sources in
+    let l : Loaded = record { script = s.script; lines = s.lines; inputs = inputs } in (
       l,
       record {
-        program = subst (IsProgramFor s) (sym same) made.1;
+        program = made.1;
         inputs = refl;
-        maps = subst (λ (p : Program). AreInputsOf p.inputs inputs) (sym same) c.in_ok-sources.ensures.sources.inputs;
-        drains = subst (λ (p : Program). AreDrainsOf inputs.frame p.inputs inputs.maps c.in_ok-sources.sources.drains) (sym same) c.in_ok-sources.ensures.sources.drains;
+        maps = sources.inputs;
+        drains = sources.drains;
       },
       meets_on why (checked_run name) inputs_read _ _ _ s (CameTo (Ok l)) made.2
           (meets_on why (inputs_run (inputs_of s.script) (area_number s.script)) (after_inputs s) _ _ _ inputs (CameTo (Ok l))
-          (after_script s c.in_ok-program.program _ _ _ made.1 c.in_ok-sources.ensures.meets)
+          (after_script s c.in_ok-program.program.value _ _ _ made.1 (rw c.deref.ensures at c.in_ok-sources.ensures.meets))
           (meets_settled (why_by why) (Ok l) state (CameTo (Ok l)) (refl, refl))),
     )
