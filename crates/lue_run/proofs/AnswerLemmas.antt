@@ -20,8 +20,11 @@ use Rattle.lue_run.specs.inside.Top.{AnswersSo, Tells}
 module _ (call : Call) where
   -- the end of the course is the verdict
   verdict_at : (end : CourseEnd) → CameOut call (CameTo end) → IsVerdict call (end_answer end)
-  verdict_at end m = if_told call.before.holds (λ files. Follows (course call.words files) files call.before call.after (CameTo end)) (IsVerdictOver call (end_answer end))
-      (λ files f. record { answer = ap end_answer f.0; puts = f.1.puts; holds = f.1.holds }) m.follows
+  verdict_at end m = record {
+    faults = m.faults;
+    over = if_told call.before.holds (λ files. Follows (course call.words files) files call.before call.after (CameTo end)) (IsVerdictOver call (end_answer end))
+        (λ files f. record { answer = ap end_answer f.0; puts = f.1.puts; holds = f.1.holds }) m.follows;
+  }
 
   verdict_of : (outcome : RunOutcome CourseEnd) → CameOut call outcome → IsVerdictKind (answer_for outcome) → IsVerdict call (answer_for outcome)
   verdict_of (CameTo end) m kind = verdict_at end m

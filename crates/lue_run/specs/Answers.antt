@@ -3,7 +3,7 @@ use Rattle.std.specs.Prelude.{◌≡◌, ◌≤◌, ◌⊎◌, List, ℕ, None, 
 use Rattle.outside_io.specs.State.{Files, FolderState, SinkState, NoCountFell, Rose, Wrote, WroteFront}
 use Rattle.outside_io.specs.Causes.{ReadFault, WriteFault, NoMemory, RunOutcome, CutOff}
 use Rattle.outside_io.specs.Events.{files_after}
-use Rattle.outside_io.specs.Met.{PutsGrew, Meets}
+use Rattle.outside_io.specs.Met.{PutsGrew, HasFaults, Meets}
 use Rattle.lue_run.specs.declared.ended.Ended.{Ended}
 use Rattle.lue_run.specs.declared.ended.Ended.TheVariants.{Usage, Missing, TooLong, FolderReadFault, FolderWriteFault, OutFault, Memory}
 use Rattle.lue_run.specs.Words.{command_of}
@@ -50,9 +50,11 @@ pub record IsVerdictOver (call : Call) (said : Ended) (files : Files) : Type 0 w
   pub puts : PutsGrew call.before call.after (outputs call.words files)
   pub holds : call.after.holds ≡ Some (files_after (outputs call.words files) files)
 
--- where the folder tells its files, the answer is the verdict over them, with all outputs put
-abbrev pub IsVerdict : Call → Ended → Type 0
-IsVerdict call answer = IfSome call.before.holds (IsVerdictOver call answer)
+-- No read and no put failed on the way; and where the folder tells its files, the answer is the verdict over them, with all
+-- outputs put.
+pub record IsVerdict (call : Call) (answer : Ended) : Type 0 where
+  pub faults : HasFaults call.after call.before.read_faults call.before.put_faults
+  pub over : IfSome call.before.holds (IsVerdictOver call answer)
 
 -- ---- why each answer comes
 

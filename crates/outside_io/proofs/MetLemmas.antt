@@ -11,7 +11,8 @@ use Rattle.outside_io.specs.Refusals.{ReadRefused, PutRefused}
 use Rattle.outside_io.specs.Events.{Event, Read, Put, Course, Run, puts_of, files_after}
 use Rattle.outside_io.specs.Runs.{settled, within_limit, reading, putting, continued, ◌>>=◌, finished, afterwards, end_as}
 use Rattle.outside_io.specs.Causes.{Fault, ReadFault, WriteFault, NoMemory, RunOutcome, CameTo, CutOff, outcome_as, stopped_by, Why, ByContents, ByAbsence, ByLength, why_by, RoseBy, RoseFor, HasCause}
-use Rattle.outside_io.specs.Met.{PutsGrew, DidAll, HoldsBut, DidUpTo, IsCutAt, Follows, Meets}
+use Rattle.outside_io.specs.Counts.{Counts, after_put, after_read, counts_of, raised}
+use Rattle.outside_io.specs.Met.{PutsGrew, DidAll, HoldsBut, DidUpTo, IsCutAt, Follows, HasFaults, OneFault, CountsFaults, Meets}
 use Rattle.outside_io.specs.inside.Parts.{Settles}
 use Rattle.outside_io.specs.declared.folder.ReadEnd.TheVariants.{Absent, TooLong, Failed}
 use Rattle.outside_io.specs.declared.folder.PutEnd.TheVariants as puts
@@ -54,6 +55,23 @@ none_fell s = record { reads = omega arith; puts = omega arith; absents = omega 
 -- a state keeps what it is
 pub read_keeps_all : (s : FolderState) → ReadKeeps s s
 read_keeps_all s = record { holds = refl; puts = refl; put_faults = refl; later = none_fell s }
+
+-- no fault was met
+abbrev pub NoFaultMet : FolderState → FolderState → Type 0
+NoFaultMet old new = HasFaults new old.read_faults old.put_faults
+
+no_fault : (s : FolderState) → NoFaultMet s s
+no_fault s = record { reads = refl; puts = refl }
+
+one_fault_later : (old mid new : FolderState) (fault : Fault) → NoFaultMet old mid → OneFault mid new fault → OneFault old new fault
+one_fault_later old mid new (ReadFault name) a b = record { reads = b.reads ∙ ap raised a.reads; puts = b.puts ∙ a.puts }
+one_fault_later old mid new (WriteFault name) a b = record { reads = b.reads ∙ a.reads; puts = b.puts ∙ ap raised a.puts }
+one_fault_later old mid new NoMemory a b = tt
+
+-- what was met at last was met over all, where no fault was met at first
+faults_later : {X : Type 0} (old mid new : FolderState) (outcome : RunOutcome X) → NoFaultMet old mid → CountsFaults mid new outcome → CountsFaults old new outcome
+faults_later old mid new (CameTo end) a b = record { reads = b.reads ∙ a.reads; puts = b.puts ∙ a.puts }
+faults_later old mid new (CutOff fault) a b = one_fault_later old mid new fault a b
 
 -- ---- facts on the files, where they are told
 
@@ -134,6 +152,10 @@ same_cause : (X Y : Type 0) {E : Type 0} (why : E → Why) (old new : FolderStat
 same_cause X Y why old new (CameTo e) c = c
 same_cause X Y why old new (CutOff fault) c = c
 
+same_faults : (X Y : Type 0) {E : Type 0} (old new : FolderState) (outcome : RunOutcome E) → CountsFaults {X = Result X E} old new (stopped_by outcome) → CountsFaults {X = Result Y E} old new (stopped_by outcome)
+same_faults X Y old new (CameTo e) c = c
+same_faults X Y old new (CutOff fault) c = c
+
 module _ {X Y E : Type 0} (why : E → Why) (run : Run (Result X E)) (next : X → Run (Result Y E)) where
   stopped : (events : List Event) (end : Result X E) (then : X → Course (Result Y E)) (files : Files) (old new : FolderState) (outcome : RunOutcome E) →
       Follows (record { events = events; end = end }) files old new (stopped_by outcome) → Follows (continued events then end) files old new (stopped_by outcome)
@@ -147,6 +169,7 @@ module _ {X Y E : Type 0} (why : E → Why) (run : Run (Result X E)) (next : X �
   meets_stop old new outcome m = record {
     later = m.later;
     cause = same_cause X Y why old new outcome m.cause;
+    faults = same_faults X Y old new outcome m.faults;
     follows = if_told old.holds (λ files. Follows (run files) files old new (stopped_by outcome)) (λ files. Follows ((run >>= next) files) files old new (stopped_by outcome))
         (λ files f. stopped (run files).events (run files).end (λ x. next x (files_after (puts_of (run files).events) files)) files old new outcome f) m.follows;
   }
@@ -164,6 +187,7 @@ module _ {X Y E : Type 0} (why : E → Why) (run : Run (Result X E)) (next : X �
   meets_on old mid new x outcome m n = record {
     later = no_count_fell old mid new m.later n.later;
     cause = cause_later (why_by why) old mid new outcome m.later n.cause;
+    faults = faults_later old mid new outcome m.faults n.faults;
     follows = if_told old.holds (λ files. Follows (run files) files old mid (CameTo (Ok x))) (λ files. Follows ((run >>= next) files) files old new outcome)
         (λ files f. went_on old mid new x outcome files n.follows f) m.follows;
   }
@@ -185,6 +209,7 @@ module _ {X : Type 0} (why : X → Why) where
   meets_settled end s (CameTo x) is = record {
     later = none_fell s;
     cause = subst (RoseBy s s) (sym is.1) tt;
+    faults = no_fault s;
     follows = where_told s s.holds (λ files. Follows (settled end files) files s s (CameTo x)) refl (λ files h. (sym is.0, did_none s s files (read_keeps_all s) h [] refl));
   }
   meets_settled end s (CutOff (ReadFault name)) is = absurd is
@@ -195,6 +220,7 @@ module _ {X : Type 0} (why : X → Why) where
       gave_up s = record {
         later = none_fell s;
         cause = tt;
+        faults = tt;
         follows = where_told s s.holds (λ files. IsCutAt [] files s s NoMemory) refl
             (λ files h. ([], [], record { events = refl; puts = grew_by_none s.puts s.puts refl; holds = h }));
       }
@@ -204,6 +230,7 @@ module _ {X : Type 0} (why : X → Why) where
   meets_no_memory run old new k = record {
     later = k.later;
     cause = tt;
+    faults = tt;
     follows = where_told old old.holds (λ files. Follows (run files) files old new (CutOff NoMemory)) refl
         (λ files h. ([], (run files).events, record { events = refl; puts = grew_by_none old.puts new.puts k.puts; holds = all_held (run files).events files new (k.holds ∙ h) }));
   }
@@ -219,15 +246,16 @@ module _ {X : Type 0} (why : X → Why) where
   meets_forgotten run old new outcome m = record {
     later = m.later;
     cause = tt;
+    faults = tt;
     follows = if_told old.holds (λ files. Follows (run files) files old new outcome) (λ files. Follows (run files) files old new (CutOff NoMemory))
         (λ files f. forgotten (run files) files old new outcome f) m.follows;
   }
 
 module _ {E : Type 0} (why : E → Why) (missing too_long : List ℕ → E) (name : List ℕ) (limit : ℕ) (old new : FolderState) (k : ReadKeeps old new) where
   -- a read by what it gives, where the files are told
-  meets_read_by : (end : Result (List ℕ) E) → RoseBy old new (why_by why end) → IfSome old.holds (λ files. end ≡ within_limit (missing name) (too_long name) limit (get files name)) →
+  meets_read_by : (end : Result (List ℕ) E) → new.read_faults ≡ old.read_faults → RoseBy old new (why_by why end) → IfSome old.holds (λ files. end ≡ within_limit (missing name) (too_long name) limit (get files name)) →
       Meets (why_by why) (reading missing too_long name limit) old new (CameTo end)
-  meets_read_by end cause gives = record { later = k.later; cause = cause; follows = read_told old.holds refl gives }
+  meets_read_by end none cause gives = record { later = k.later; cause = cause; faults = record { reads = none; puts = k.put_faults }; follows = read_told old.holds refl gives }
     where
       read_told : (holds : Option Files) → old.holds ≡ holds → IfSome holds (λ files. end ≡ within_limit (missing name) (too_long name) limit (get files name)) →
           IfSome holds (λ files. Follows (reading missing too_long name limit files) files old new (CameTo end))
@@ -235,14 +263,14 @@ module _ {E : Type 0} (why : E → Why) (missing too_long : List ℕ → E) (nam
       read_told (Some files) h f = (f, did_none old new files k h (Read name limit ∷ []) refl)
 
   -- the folder gave the bytes
-  pub meets_read : (bytes : List ℕ) → IsFound old name limit bytes → Meets (why_by why) (reading missing too_long name limit) old new (CameTo (Ok bytes))
-  meets_read bytes found = meets_read_by (Ok bytes) tt
+  pub meets_read : (bytes : List ℕ) → counts_of new ≡ counts_of old → IsFound old name limit bytes → Meets (why_by why) (reading missing too_long name limit) old new (CameTo (Ok bytes))
+  meets_read bytes counts found = meets_read_by (Ok bytes) (ap (λ (c : Counts). c.read_faults) counts) tt
       (if_told old.holds (λ files. get files name ≡ Some bytes) (λ files. Ok bytes ≡ within_limit (missing name) (too_long name) limit (get files name))
       (λ files f. sym (ap (within_limit (missing name) (too_long name) limit) f ∙ ap (λ b. cond b (Ok bytes) (Err (too_long name))) (le-leb (length bytes) limit found.short))) found.held)
 
   -- there is no file of that name
-  pub meets_absent : why (missing name) ≡ ByAbsence → ReadRefused old new name limit Absent → Meets (why_by why) (reading missing too_long name limit) old new (CameTo (Err (missing name)))
-  meets_absent is r = meets_read_by (Err (missing name)) (subst (RoseBy old new) (sym is) r.0)
+  pub meets_absent : why (missing name) ≡ ByAbsence → counts_of new ≡ after_read {X = List ℕ} (counts_of old) (Err Absent) → ReadRefused old new name limit Absent → Meets (why_by why) (reading missing too_long name limit) old new (CameTo (Err (missing name)))
+  meets_absent is counts r = meets_read_by (Err (missing name)) (ap (λ (c : Counts). c.read_faults) counts) (subst (RoseBy old new) (sym is) r.0)
       (if_told old.holds (λ files. get files name ≡ None) (λ files. Err (missing name) ≡ within_limit (missing name) (too_long name) limit (get files name))
       (λ files f. sym (ap (within_limit (missing name) (too_long name) limit) f)) r.1)
 
@@ -251,24 +279,25 @@ module _ {E : Type 0} (why : E → Why) (missing too_long : List ℕ → E) (nam
   long_file (Some bytes) f = ap (λ b. cond b (Ok bytes) (Err (too_long name))) (sym (lt-leb-false limit (length bytes) f))
 
   -- the file is longer than the limit
-  pub meets_long : why (too_long name) ≡ ByLength → ReadRefused old new name limit TooLong → Meets (why_by why) (reading missing too_long name limit) old new (CameTo (Err (too_long name)))
-  meets_long is r = meets_read_by (Err (too_long name)) (subst (RoseBy old new) (sym is) r.0)
+  pub meets_long : why (too_long name) ≡ ByLength → counts_of new ≡ after_read {X = List ℕ} (counts_of old) (Err TooLong) → ReadRefused old new name limit TooLong → Meets (why_by why) (reading missing too_long name limit) old new (CameTo (Err (too_long name)))
+  meets_long is counts r = meets_read_by (Err (too_long name)) (ap (λ (c : Counts). c.read_faults) counts) (subst (RoseBy old new) (sym is) r.0)
       (if_told old.holds (λ files. IsSomeAnd (get files name) (λ bytes. limit < length bytes)) (λ files. Err (too_long name) ≡ within_limit (missing name) (too_long name) limit (get files name))
       (λ files f. long_file (get files name) f) r.1)
 
   -- the read failed
-  pub meets_read_failed : ReadRefused old new name limit Failed → Meets (why_by why) (reading missing too_long name limit) old new (CutOff (ReadFault name))
-  meets_read_failed r = record {
+  pub meets_read_failed : counts_of new ≡ after_read {X = List ℕ} (counts_of old) (Err Failed) → ReadRefused old new name limit Failed → Meets (why_by why) (reading missing too_long name limit) old new (CutOff (ReadFault name))
+  meets_read_failed counts r = record {
     later = k.later;
     cause = r;
+    faults = record { reads = ap (λ (c : Counts). c.read_faults) counts; puts = k.put_faults };
     follows = where_told old old.holds (λ files. IsCutAt (Read name limit ∷ []) files old new (ReadFault name)) refl
         (λ files h. ([], [], limit, record { events = refl; puts = grew_by_none old.puts new.puts k.puts; holds = k.holds ∙ h }));
   }
 
 module _ {E : Type 0} (why : E → Why) (name bytes : List ℕ) (old new : FolderState) (k : PutKeeps old new) where
   -- the file was put
-  pub meets_put : IsPut old new name bytes → Meets (why_by why) (putting name bytes) old new (CameTo (Ok tt))
-  meets_put p = record { later = k.later; cause = tt; follows = put_told old.holds p.holds }
+  pub meets_put : counts_of new ≡ counts_of old → IsPut old new name bytes → Meets (why_by why) (putting name bytes) old new (CameTo (Ok tt))
+  meets_put counts p = record { later = k.later; cause = tt; faults = record { reads = k.read_faults; puts = ap (λ (c : Counts). c.put_faults) counts }; follows = put_told old.holds p.holds }
     where
       put_told : (holds : Option Files) → new.holds ≡ option_map (λ files. insert files name bytes) holds → IfSome holds (λ files. Follows {X = Result (Unit {0}) E} (putting name bytes files) files old new (CameTo (Ok tt)))
       put_told None h = tt
@@ -279,10 +308,11 @@ module _ {E : Type 0} (why : E → Why) (name bytes : List ℕ) (old new : Folde
   not_put (Some files) others p = record { events = refl; puts = grew_by_none old.puts new.puts p; holds = others }
 
   -- the put failed
-  pub meets_put_failed : PutRefused old new name puts.Failed → Meets (why_by why) (putting name bytes) old new (CutOff (WriteFault name))
-  meets_put_failed r = record {
+  pub meets_put_failed : counts_of new ≡ after_put {X = List ℕ} (counts_of old) (Err puts.Failed) → PutRefused old new name puts.Failed → Meets (why_by why) (putting name bytes) old new (CutOff (WriteFault name))
+  meets_put_failed counts r = record {
     later = k.later;
     cause = r.0;
+    faults = record { reads = k.read_faults; puts = ap (λ (c : Counts). c.put_faults) counts };
     follows = if_told old.holds (λ files. DidUpTo files old new (Put name bytes ∷ []) [] (Put name bytes ∷ [])) (λ files. IsCutAt (Put name bytes ∷ []) files old new (WriteFault name))
         (λ files d. ([], [], bytes, d)) (not_put old.holds r.1.others r.1.puts);
   }
@@ -292,6 +322,7 @@ module _ {E : Type 0} (why : E → Why) (name bytes : List ℕ) (old new : Folde
   meets_put_no_memory r = record {
     later = k.later;
     cause = tt;
+    faults = tt;
     follows = if_told old.holds (λ files. DidUpTo files old new (Put name bytes ∷ []) [] (Put name bytes ∷ [])) (λ files. IsCutAt (Put name bytes ∷ []) files old new NoMemory)
         (λ files d. ([], Put name bytes ∷ [], d)) (not_put old.holds r.others r.puts);
   }
@@ -304,9 +335,10 @@ module _ {X Y : Type 0} (why : X → Why) (why' : Y → Why) (f : X → Y) (same
   meets_end_as run old new (CameTo end) m = record {
     later = m.later;
     cause = subst (RoseBy old new) (sym (same end)) m.cause;
+    faults = m.faults;
     follows = if_told old.holds (λ files. Follows (run files) files old new (CameTo end)) (λ files. Follows (end_as f run files) files old new (CameTo (f end))) (λ files g. (ap f g.0, g.1)) m.follows;
   }
-  meets_end_as run old new (CutOff fault) m = record { later = m.later; cause = m.cause; follows = m.follows }
+  meets_end_as run old new (CutOff fault) m = record { later = m.later; cause = m.cause; faults = m.faults; follows = m.follows }
 
 -- ---- a part that is done whichever way the first one came out
 
@@ -317,6 +349,7 @@ module _ {X E : Type 0} (why : E → Why) (run : Run (Result X E)) (last : Resul
   meets_afterwards old mid new end m n = record {
     later = no_count_fell old mid new m.later n.later;
     cause = rose_by_earlier old mid new (why_by why end) n.later m.cause;
+    faults = faults_later {X = Result X E} old mid new (CameTo end) m.faults n.faults;
     follows = if_told old.holds (λ files. Follows (run files) files old mid (CameTo end)) (λ files. Follows (afterwards run last files) files old new (CameTo end)) (λ files f. both files f) m.follows;
   }
     where
@@ -338,6 +371,7 @@ module _ {X E : Type 0} (why : E → Why) (run : Run (Result X E)) (last : Resul
   meets_cut_off old new fault m = record {
     later = m.later;
     cause = m.cause;
+    faults = m.faults;
     follows = if_told old.holds (λ files. IsCutAt (run files).events files old new fault) (λ files. Follows (afterwards run last files) files old new (CutOff fault)) (λ files f. cut files f) m.follows;
   }
     where
@@ -359,6 +393,7 @@ module _ {X E : Type 0} (why : E → Why) (run : Run (Result X E)) (last : Resul
   meets_last_stop old mid new end outcome m n = record {
     later = no_count_fell old mid new m.later n.later;
     cause = same_cause (Unit {0}) X why old new outcome (cause_later (why_by why) old mid new (stopped_by outcome) m.later n.cause);
+    faults = same_faults (Unit {0}) X old new outcome (faults_later old mid new (stopped_by outcome) m.faults n.faults);
     follows = if_told old.holds (λ files. Follows (run files) files old mid (CameTo end)) (λ files. Follows (afterwards run last files) files old new (stopped_by outcome)) (λ files f. second_ended files f) m.follows;
   }
     where
@@ -369,26 +404,3 @@ module _ {X E : Type 0} (why : E → Why) (run : Run (Result X E)) (last : Resul
           let h = after_told files old mid events (λ files. Follows (last end files) files mid new (stopped_by outcome)) f.1 n.follows in
           subst (λ o. Follows (finished (events ++ (last o after).events) o (last o after).end) files old new (stopped_by outcome)) f.0
           (ended_last events (last end after) end files old new outcome (follows_later files old mid new events f.1 (last end after) (stopped_by outcome) h))
-
--- ---- a read that is not yet a part of the run
-
--- a read before its turn changes nothing that a run speaks of
-pub meets_after_read : {X : Type 0} (why : X → Why) (run : Run X) (old mid new : FolderState) (outcome : RunOutcome X) → ReadKeeps old mid → Meets why run mid new outcome → Meets why run old new outcome
-meets_after_read {X} why run old mid new outcome k m = record {
-  later = no_count_fell old mid new k.later m.later;
-  cause = cause_later why old mid new outcome k.later m.cause;
-  follows = if_told old.holds (λ files. Follows (run files) files mid new outcome) (λ files. Follows (run files) files old new outcome) (λ files f. kept (run files) files outcome f)
-      (subst (λ h. IfSome h (λ files. Follows (run files) files mid new outcome)) k.holds m.follows);
-}
-  where
-    grew : (puts : List PutPair) → PutsGrew mid new puts → PutsGrew old new puts
-    grew puts p = p ∙ ap (option_map (λ before. before ++ puts)) k.puts
-
-    up_to : (files : Files) (all done left : List Event) → DidUpTo files mid new all done left → DidUpTo files old new all done left
-    up_to files all done left d = record { events = d.events; puts = grew (puts_of done) d.puts; holds = d.holds }
-
-    kept : (course : Course X) (files : Files) (outcome : RunOutcome X) → Follows course files mid new outcome → Follows course files old new outcome
-    kept course files (CameTo end) f = (f.0, record { puts = grew (puts_of course.events) f.1.puts; holds = f.1.holds })
-    kept course files (CutOff (ReadFault name)) f = (f.0, f.1, f.2, up_to files course.events f.0 (Read name f.2 ∷ f.1) f.3)
-    kept course files (CutOff (WriteFault name)) f = (f.0, f.1, f.2, up_to files course.events f.0 (Put name f.2 ∷ f.1) f.3)
-    kept course files (CutOff NoMemory) f = (f.0, f.1, up_to files course.events f.0 f.1 f.2)

@@ -1,8 +1,9 @@
 -- What a call did that makes a run.
-use Rattle.std.specs.Prelude.{◌≡◌, ℕ, List, [], ◌∷◌, ◌++◌, Some, IfSome}
+use Rattle.std.specs.Prelude.{◌≡◌, ℕ, List, [], ◌∷◌, ◌++◌, Some, IfSome, ⊤}
 use Rattle.std.specs.Option.{option_map}
 use Rattle.outside_io.specs.State.{Files, PutPair, FolderState, NoCountFell, SameOthers}
 use Rattle.outside_io.specs.Events.{Event, Read, Put, Course, Run, puts_of, files_after}
+use Rattle.outside_io.specs.Counts.{raised}
 use Rattle.outside_io.specs.Causes.{Fault, ReadFault, WriteFault, NoMemory, RunOutcome, CameTo, CutOff, Why, HasCause}
 
 -- the puts that succeeded grew by these, where they are told
@@ -40,9 +41,27 @@ abbrev pub Follows : {X : Type 0} → Course X → Files → FolderState → Fol
 Follows course files old new (CameTo end) = (end ≡ course.end) × DidAll files old new course.events
 Follows course files old new (CutOff fault) = IsCutAt course.events files old new fault
 
--- What a call did that makes this run and comes out so. No count fell. The outcome has its cause. And where the folder
--- tells its files, it is the end of the course with all its puts, or a fault or want of memory on the way.
+-- the folder has counted so many faults of reads and of puts
+pub record HasFaults (s : FolderState) (of_reads of_puts : ℕ) : Type 0 where
+  pub reads : s.read_faults ≡ of_reads
+  pub puts : s.put_faults ≡ of_puts
+
+-- one more fault is counted, that which cut the call off; for want of memory nothing is said
+abbrev pub OneFault : FolderState → FolderState → Fault → Type 0
+OneFault old new (ReadFault name) = HasFaults new (raised old.read_faults) old.put_faults
+OneFault old new (WriteFault name) = HasFaults new old.read_faults (raised old.put_faults)
+OneFault old new NoMemory = ⊤
+
+-- A call that came to its end met no fault, and one that was cut off by a fault met no other: none was tried again.
+abbrev pub CountsFaults : {X : Type 0} → FolderState → FolderState → RunOutcome X → Type 0
+CountsFaults old new (CameTo end) = HasFaults new old.read_faults old.put_faults
+CountsFaults old new (CutOff fault) = OneFault old new fault
+
+-- What a call did that makes this run and comes out so. No count fell. The outcome has its cause, and the only fault that was
+-- met is the one that is told. And where the folder tells its files, the outcome is the end of the course with all its puts,
+-- or a fault or want of memory on the way.
 pub record Meets {X : Type 0} (why : X → Why) (run : Run X) (old new : FolderState) (outcome : RunOutcome X) : Type 0 where
   pub later : NoCountFell old new
   pub cause : HasCause why old new outcome
+  pub faults : CountsFaults old new outcome
   pub follows : IfSome old.holds (λ files. Follows (run files) files old new outcome)

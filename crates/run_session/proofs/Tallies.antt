@@ -21,6 +21,7 @@ module _ {X : Type 0} (run : Run (Result X ScriptEnd)) (steps : ℕ) (old new : 
   tallied_ends n x many m = record {
     later = m.later;
     cause = m.cause;
+    faults = m.faults;
     follows = if_told old.holds (λ files. Follows (run files) files old new (CameTo (Ok x))) (λ files. Follows (tallied steps run files) files old new (CameTo (Ok (tally_of n steps)))) (λ files f.
         let P : ℕ → Result Tally ScriptEnd = λ k. Ok (tally_of k steps) in
         (ap P (sym (many files x (sym f.0))) ∙ ap (tally_by (length (puts_of (run files).events)) steps) f.0, f.1)) m.follows;
@@ -31,10 +32,11 @@ module _ {X : Type 0} (run : Run (Result X ScriptEnd)) (steps : ℕ) (old new : 
   tallied_stops (CameTo end) m = record {
     later = m.later;
     cause = m.cause;
+    faults = m.faults;
     follows = if_told old.holds (λ files. Follows (run files) files old new (CameTo (Err end))) (λ files. Follows (tallied steps run files) files old new (CameTo (Err end))) (λ files f.
         (ap (tally_by (length (puts_of (run files).events)) steps) f.0, f.1)) m.follows;
   }
-  tallied_stops (CutOff fault) m = record { later = m.later; cause = m.cause; follows = m.follows }
+  tallied_stops (CutOff fault) m = record { later = m.later; cause = m.cause; faults = m.faults; follows = m.follows }
 
 -- ---- parts
 

@@ -1,5 +1,7 @@
 -- A put that failed.
-use Rattle.std.proofs.Common.{subst}
+use Rattle.std.proofs.Common.{◌≡◌, subst, Err}
+use Rattle.outside_io.specs.declared.folder.PutEnd.{PutEnd}
+use Rattle.outside_io.specs.Counts.{after_put, counts_of}
 use Rattle.outside_io.specs.Refusals.{PutRefused}
 use Rattle.outside_io.specs.Puts.{no_error}
 use Rattle.outside_io.proofs.MetLemmas.{meets_put_failed}
@@ -12,5 +14,6 @@ returns-in-Err-Failed-clause-meets g c =
     let new = state c.put.new.self in
     let file = c.args.file.now in
     meets_put_failed no_error file.name.items file.bytes.items old new c.in-Err-Failed.ensures.keeps
+    (subst (λ (end : PutEnd). counts_of new ≡ after_put {X = Unit {0}} (counts_of old) (Err end)) c.in-Err-Failed.field-0-is c.in-Err-Failed.ensures.counts)
     (subst (PutRefused old new file.name.items) c.in-Err-Failed.field-0-is
     (subst (λ name. PutRefused old new name c.in-Err-Failed.field-0) c.as_slice.ensures.value c.in-Err-Failed.ensures.answer))

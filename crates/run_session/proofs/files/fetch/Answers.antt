@@ -1,5 +1,7 @@
 -- A read that failed.
-use Rattle.std.proofs.Common.{sym, subst}
+use Rattle.std.proofs.Common.{◌≡◌, ℕ, List, sym, subst, Err}
+use Rattle.outside_io.specs.declared.folder.ReadEnd.{ReadEnd}
+use Rattle.outside_io.specs.Counts.{after_read, counts_of}
 use Rattle.outside_io.specs.Refusals.{ReadRefused}
 use Rattle.outside_io.specs.Runs.{reading}
 use Rattle.outside_io.specs.Causes.{CutOff, ReadFault, why_by}
@@ -15,4 +17,5 @@ returns-in-Failed-clause-meets g c =
     let new = state c.read.new.self in
     subst (λ word. Meets (why_by why) (reading Missing TooLong c.args.name.now c.args.limit) old new (CutOff (ReadFault word))) (sym c.in-Ok-new.ensures)
     (meets_read_failed why Missing TooLong c.args.name.now c.args.limit old new c.in-Err.ensures.keeps
+    (subst (λ (end : ReadEnd). counts_of new ≡ after_read {X = List ℕ} (counts_of old) (Err end)) c.in-Failed.is c.in-Err.ensures.counts)
     (subst (ReadRefused old new c.args.name.now c.args.limit) c.in-Failed.is c.in-Err.ensures.answer))
