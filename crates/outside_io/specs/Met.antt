@@ -46,20 +46,20 @@ pub record HasFaults (s : FolderState) (of_reads of_puts : ℕ) : Type 0 where
   pub reads : s.read_faults ≡ of_reads
   pub puts : s.put_faults ≡ of_puts
 
--- one more fault is counted, that which cut the call off; for want of memory nothing is said
+-- one fault is counted, of the sort of the one that cut the call off; for want of memory nothing is said
 abbrev pub OneFault : FolderState → FolderState → Fault → Type 0
 OneFault old new (ReadFault name) = HasFaults new (raised old.read_faults) old.put_faults
 OneFault old new (WriteFault name) = HasFaults new old.read_faults (raised old.put_faults)
 OneFault old new NoMemory = ⊤
 
--- A call that came to its end met no fault, and one that was cut off by a fault met no other: none was tried again.
+-- A call that came to its end met no fault, not even one that a second try made good; one that was cut off by a fault met one.
 abbrev pub CountsFaults : {X : Type 0} → FolderState → FolderState → RunOutcome X → Type 0
 CountsFaults old new (CameTo end) = HasFaults new old.read_faults old.put_faults
 CountsFaults old new (CutOff fault) = OneFault old new fault
 
--- What a call did that makes this run and comes out so. No count fell. The outcome has its cause, and the only fault that was
--- met is the one that is told. And where the folder tells its files, the outcome is the end of the course with all its puts,
--- or a fault or want of memory on the way.
+-- What a call did that makes this run and comes out so. No count fell. The outcome has its cause, and as many faults were
+-- met as it tells. And where the folder tells its files, the outcome is the end of the course with all its puts, or a fault or
+-- want of memory on the way.
 pub record Meets {X : Type 0} (why : X → Why) (run : Run X) (old new : FolderState) (outcome : RunOutcome X) : Type 0 where
   pub later : NoCountFell old new
   pub cause : HasCause why old new outcome

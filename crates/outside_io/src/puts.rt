@@ -39,7 +39,7 @@ fn put_one<'a, F: Folder>(
     }
 }
 
-/// Puts files, in order, and stops at the first that is not put. No file is tried twice.
+/// Puts files, in order, and stops at the first that is not put. None whose put failed is tried again.
 pub fn put_in_turn<'a, F: Folder>(
     alloc: Global,
     folder: &mut F,
