@@ -16,8 +16,9 @@ const MOST_BYTES: usize = 28;
 
 const POINT: usize = 21;
 
-/// Where the bytes end that stand behind each place at which a text begins, as many as the longest text has.
-const ROOM: usize = POINT + MOST_BYTES;
+/// Where the bytes end that stand behind each place at which a text begins, as many as the longest text has. At least one
+/// digit stands before the point.
+const ROOM: usize = POINT - 1 + MOST_BYTES;
 
 // The digits without the zeros at their end.
 #[inline]
@@ -39,7 +40,7 @@ fn without_zeros(digits: &[u8]) -> &[u8]
 #[inline(always)]
 fn put_fraction(part: u64, text: &mut [u8]) -> usize
     requires part { part < million }
-    requires room { length text.old ≡ 49 }
+    requires room { length text.old ≡ 48 }
     ensures within { (21 ≤ result) × (result ≤ 28) }
     ensures written { take (result - 21) (drop 21 text.new) ≡ fraction_text part }
 {
@@ -56,8 +57,9 @@ fn put_fraction(part: u64, text: &mut [u8]) -> usize
 #[inline(always)]
 fn put_whole(negative: bool, whole: u64, text: &mut [u8]) -> usize
     requires whole { whole < 10 ^ 14 }
-    requires room { length text.old ≡ 49 }
+    requires room { length text.old ≡ 48 }
     ensures start { result + length (signed negative (decimal whole)) ≡ 21 }
+    ensures digit { result < 21 }
     ensures written { drop result text.new ≡ signed negative (decimal whole) ++ drop 21 text.old }
 {
     let start = write_digits(whole, text, POINT);

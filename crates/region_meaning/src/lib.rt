@@ -1,7 +1,7 @@
 //! What operations over regions mean: over the window of a place, over the area of a class, and over a whole map.
 //!
-//! A region is told by the list of its cells without the missing ones, and what an operation gives is told of that list, so
-//! the order in which the cells are met does not matter.
+//! A region is told by the list of its cells in row-major order, without the missing ones, and what an operation gives is
+//! told of that list.
 #![tactic(auto)]
 
 mod area;

@@ -1,5 +1,5 @@
 use Rattle.std.proofs.Common.{◌≡◌, ◌+◌, ◌-◌, ◌∷◌, ◌++◌, drop, decimal, ap, sym, ◌∙◌, arith}
-use Rattle.std.proofs.lemmas.Fmt.{length-decimal-le}
+use Rattle.std.proofs.lemmas.Fmt.{decimal_nonempty, length-decimal-le}
 use Rattle.std.proofs.lemmas.List.{drop-set}
 use Rattle.cell_values.proofs.Printing.{signed_length, signed_is}
 use Rattle.cell_values.proofs.print.put_whole.Goals as goal
@@ -30,3 +30,8 @@ returns-clause-written c =
     let e : w.result - 1 + 1 ≡ w.result = omega (arith, long, w.ensures.start) in
     let set = drop-set w.new.buf (w.result - 1) 45 (omega (arith, long, w.ensures.start, c.requires.room)) in
     set ∙ ap (λ k. 45 ∷ drop k w.new.buf) e ∙ ap (λ t. 45 ∷ t) w.ensures.written ∙ ap (λ t. t ++ drop 21 c.args.text.now) (sym (signed_is c.args.negative (decimal c.args.whole) c.if-not-negative.false))
+
+pub returns-then-not-negative-clause-digit : goal.returns-then-not-negative-clause-digit
+returns-then-not-negative-clause-digit c =
+    let some = decimal_nonempty c.args.whole (omega (arith, c.requires.whole)) in
+    omega (arith, some, c.write_digits-start.ensures.start)
