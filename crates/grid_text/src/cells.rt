@@ -8,7 +8,7 @@ ghost use Rattle.grid_text.specs.Form.{cell_of_token, is_missing};
 ghost use Rattle.grid_text.specs.Faults.{fault_at};
 ghost use Rattle.grid_text.specs.inside.Reading.{cells_from, cell_or_fault_at};
 ghost use Rattle.grid_text.specs.inside.Steps.{BeginsWithCell, BeginsWithFault, EndsTokenBefore, Gives, is_maybe_missing, number_of_cell};
-ghost use Rattle.text_base.specs.Tokens.{IsEmptyOrToken, tokens_left};
+ghost use Rattle.text_base.specs.Tokens.{tokens_left};
 
 use crate::fault::{GridFault, GridKind, ReadGrid};
 use crate::key::is_nan;
@@ -124,6 +124,7 @@ fn behind_token(text: &[u8]) -> Option<&[u8]>
 
 // A cell of few digits at the front of these bytes that is not what the missing value is read as, and
 // the bytes behind it. Most cells are such: one pass finds both the end of the token and its value.
+// Before a blank stands none.
 #[inline(always)]
 fn leading_cell<'a>(
     kind: Kind,
@@ -134,7 +135,6 @@ fn leading_cell<'a>(
 ) -> Option<(Cell, &'a [u8])>
     requires prepared { number ≡ number_of_cell (cell_read kind nodata.now) }
     requires within { length bytes.now ≤ text_len }
-    requires at_token { IsEmptyOrToken bytes.now }
     ensures { IfSome result (λ found. BeginsWithCell kind nodata.now text_len bytes.now found.0 found.1.now) }
 {
     let (value, len) = short_cell(kind, bytes)?;
@@ -145,7 +145,7 @@ fn leading_cell<'a>(
     Some((cell, behind_token(bytes.split_at(len).1)?))
 }
 
-// The first cell of these bytes in any form, and the bytes behind its token, or its fault.
+// The first cell of these bytes, behind blanks or in any form, and the bytes behind its token, or its fault.
 #[inline(never)]
 fn any_cell<'a>(
     kind: Kind,
@@ -161,6 +161,12 @@ fn any_cell<'a>(
         (λ found. BeginsWithCell kind nodata.now text_len bytes.now found.0 found.1.now)
         (λ fault. BeginsWithFault kind nodata.now text_len bytes.now fault) }
 {
+    let front = skip_blanks(bytes);
+    if front.len() < bytes.len() {
+        if let Some(found) = leading_cell(kind, nodata, number, text_len, front) {
+            return Ok(found);
+        }
+    }
     let Some((token, behind)) = next_token(text_len, bytes) else {
         return Err(count_fault(text_len as u64));
     };
@@ -188,13 +194,13 @@ pub fn read_cells(
     let mut cells = Vec::with_capacity(alloc, count.min(bytes.len() / 2 + 1))?;
     let mut rest = bytes;
     for _ in 0..count {
-        let front = skip_blanks(rest);
-        if let Some((cell, behind)) = leading_cell(kind, nodata, number, text_len, front) {
+        // What stands behind a cell is mostly one blank, which is passed with it.
+        if let Some((cell, behind)) = leading_cell(kind, nodata, number, text_len, rest) {
             cells.push(cell)?;
             rest = behind;
             continue;
         }
-        match any_cell(kind, nodata, number, text_len, front) {
+        match any_cell(kind, nodata, number, text_len, rest) {
             Ok((cell, behind)) => {
                 cells.push(cell)?;
                 rest = behind;

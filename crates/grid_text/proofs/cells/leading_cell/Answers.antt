@@ -16,4 +16,4 @@ returns c =
     let same = to_z-of_z w64 z fits in
     let read : cell_read c.args.kind (take len bytes) ≡ Ok (Val z) = c.in_ok-value.ensures.reading in
     let other : is_maybe_missing c.args.number (Ok (Val z)) ≡ false = rw same at (sym c.is_maybe_missing.ensures ∙ c.if-is_maybe_missing.false) in
-    rw same (begins c.args.kind c.args.nodata.now c.args.number c.args.text_len bytes c.split_at.result.1.now c.in_ok-behind_token.field-0.now len z c.requires.prepared c.requires.within c.requires.at_token c.in_ok-value.ensures.within c.split_at.ensures.back read other c.in_ok-behind_token.ensures)
+    rw same (begins c.args.kind c.args.nodata.now c.args.number c.args.text_len bytes c.split_at.result.1.now c.in_ok-behind_token.field-0.now len z c.requires.prepared c.requires.within c.in_ok-value.ensures.within c.split_at.ensures.back read other c.in_ok-behind_token.ensures)

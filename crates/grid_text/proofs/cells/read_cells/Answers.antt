@@ -1,4 +1,4 @@
-use Rattle.std.proofs.Common.{◌+◌, ◌-◌, List, Ok, Err, sym, ap, ◌∙◌}
+use Rattle.std.proofs.Common.{◌+◌, ◌-◌, List, Ok, Err, refl, sym, ap, ◌∙◌}
 use Rattle.cell_values.specs.declared.cell.Cell.{Cell}
 use Rattle.grid_text.specs.declared.fault.GridFault.{GridFault}
 use Rattle.text_base.specs.Tokens.{Token, tokens_left, token_view}
@@ -10,8 +10,7 @@ pub loop-preserved-in-Some : goal.loop-preserved-in-Some
 loop-preserved-in-Some c =
     let left : List Token = tokens_left c.args.text_len c.loop.rest.now in
     let more : List Token = tokens_left c.args.text_len c.in-Some.behind.now in
-    let same = c.skip_blanks-front.ensures.same c.args.text_len c.loop.invariant.within in
-    let on = cell_read_on c.args.kind c.args.nodata.now c.args.text_len c.loop.cells.items c.args.count c.loop.counter left _ c.loop.invariant.same c.in-Some.ensures.token more c.in-Some.cell c.loop-test.true (sym same ∙ c.in-Some.ensures.first) c.in-Some.ensures.read in
+    let on = cell_read_on c.args.kind c.args.nodata.now c.args.text_len c.loop.cells.items c.args.count c.loop.counter left _ c.loop.invariant.same c.in-Some.ensures.token more c.in-Some.cell c.loop-test.true c.in-Some.ensures.first c.in-Some.ensures.read in
     record {
       same = ap (λ (items : List Cell). before items (cells_from c.args.kind c.args.nodata.now c.args.text_len (c.args.count - (c.loop.counter + 1)) more)) c.in_ok-push.ensures.items ∙ on;
       within = c.in-Some.ensures.within;
@@ -21,8 +20,7 @@ pub loop-preserved : goal.loop-preserved
 loop-preserved c =
     let left : List Token = tokens_left c.args.text_len c.loop.rest.now in
     let more : List Token = tokens_left c.args.text_len c.in-Ok.behind.now in
-    let same = c.skip_blanks-front.ensures.same c.args.text_len c.loop.invariant.within in
-    let on = cell_read_on c.args.kind c.args.nodata.now c.args.text_len c.loop.cells.items c.args.count c.loop.counter left _ c.loop.invariant.same c.in-Ok.ensures.token more c.in-Ok.cell c.loop-test.true (sym same ∙ c.in-Ok.ensures.first) c.in-Ok.ensures.read in
+    let on = cell_read_on c.args.kind c.args.nodata.now c.args.text_len c.loop.cells.items c.args.count c.loop.counter left _ c.loop.invariant.same c.in-Ok.ensures.token more c.in-Ok.cell c.loop-test.true c.in-Ok.ensures.first c.in-Ok.ensures.read in
     record {
       same = ap (λ (items : List Cell). before items (cells_from c.args.kind c.args.nodata.now c.args.text_len (c.args.count - (c.loop.counter + 1)) more)) c.in_ok-push-in-Ok.ensures.items ∙ on;
       within = c.in-Ok.ensures.within;
@@ -31,8 +29,7 @@ loop-preserved c =
 pub returns-in-Err : goal.returns-in-Err
 returns-in-Err c =
     let left : List Token = tokens_left c.args.text_len c.loop.rest.now in
-    let same = c.skip_blanks-front.ensures.same c.args.text_len c.loop.invariant.within in
-    cell_fails c.args.kind c.args.nodata.now c.args.text_len c.loop.cells.items c.args.count c.loop.counter left _ c.loop.invariant.same c.skip_blanks-front.result.now c.in-Err.fault c.loop-test.true (sym same) c.in-Err.ensures
+    cell_fails c.args.kind c.args.nodata.now c.args.text_len c.loop.cells.items c.args.count c.loop.counter left _ c.loop.invariant.same c.loop.rest.now c.in-Err.fault c.loop-test.true refl c.in-Err.ensures
 
 pub returns-in-Some-next_token : goal.returns-in-Some-next_token
 returns-in-Some-next_token c =
