@@ -3,7 +3,7 @@ use Rattle.std.proofs.Common.{◌⊎◌, inl, inr, ◌≡◌, ap, sym, ◌∙◌
 use Rattle.std.specs.Prelude.{ℕ, None}
 use Rattle.lue_run.specs.declared.ended.Ended.{Ended}
 use Rattle.lue_run.specs.declared.ended.Ended.TheVariants as top
-use Rattle.lue_run.specs.Answers.{Call, IsComplete, IsShown, IsUsage, IsVerdict, IsVerdictKind, LineIsWritten, NoFault}
+use Rattle.lue_run.specs.Answers.{Call, IsComplete, IsShown, IsUsage, IsVerdict, IsVerdictKind, KeepsCounts, LineIsWritten, NoFault}
 use Rattle.lue_run.specs.Lines.{status_of}
 use Rattle.lue_run.specs.Words.{command_of}
 use Rattle.dusterindigo.specs.Statuses.{AnswersWith, IsStatus}
@@ -37,8 +37,8 @@ refused_status call answer status is usage = by usage.said
 -- the status of an answer of which all this is said
 pub ends_with : (call : Call) (answer : Ended) (status : ℕ) → status ≡ status_of answer → (IsVerdictKind answer → IsVerdict call answer) →
     IsShown call answer → LineIsWritten call answer → (NoFault call → IsComplete call answer) →
-    (command_of call.words ≡ None → IsUsage call answer) → AnswersWith call status
-ends_with call answer status is verdict shown line complete usage = record {
+    (command_of call.words ≡ None → IsUsage call answer) → KeepsCounts call → AnswersWith call status
+ends_with call answer status is verdict shown line complete usage counts = record {
   answer = answer;
   is_its = is;
   verdict = verdict;
@@ -46,6 +46,7 @@ ends_with call answer status is verdict shown line complete usage = record {
   line = line;
   complete = complete;
   usage = usage;
+  counts = counts;
   refused = λ none. refused_status call answer status is (usage none);
   only = λ same. usage_alone call answer shown (sym is ∙ same);
 }

@@ -2,11 +2,11 @@
 use Rattle.std.specs.Prelude.{◌≡◌, ◌⊎◌, ℕ, None}
 use Rattle.lue_run.specs.declared.ended.Ended.{Ended}
 use Rattle.lue_run.specs.declared.ended.Ended.TheVariants.{Memory, OutFault, Usage}
-use Rattle.lue_run.specs.Answers.{Call, IsComplete, IsShown, IsUsage, IsVerdict, IsVerdictKind, LineIsWritten, NoFault}
+use Rattle.lue_run.specs.Answers.{Call, IsComplete, IsShown, IsUsage, IsVerdict, IsVerdictKind, KeepsCounts, LineIsWritten, NoFault}
 use Rattle.lue_run.specs.Lines.{status_of}
 use Rattle.lue_run.specs.Words.{command_of}
 
--- The status is that of an answer which this call may give: for it stands all that is said of the answer of `lue_plain`. Where
+-- The status is that of an answer which this call may give: for it stands all that is said of a call of `lue_plain`. Where
 -- the words are no command it is that of usage, of a line that could not be written in place of usage, or of want of memory;
 -- and it is that of usage only there.
 pub record AnswersWith (call : Call) (status : ℕ) : Type 0 where
@@ -17,6 +17,7 @@ pub record AnswersWith (call : Call) (status : ℕ) : Type 0 where
   pub line : LineIsWritten call answer
   pub complete : NoFault call → IsComplete call answer
   pub usage : command_of call.words ≡ None → IsUsage call answer
+  pub counts : KeepsCounts call
   pub refused : command_of call.words ≡ None
       → (status ≡ status_of Usage) ⊎ (status ≡ status_of (OutFault (status_of Usage))) ⊎ (status ≡ status_of Memory)
   pub only : status ≡ status_of Usage → command_of call.words ≡ None

@@ -1,7 +1,8 @@
 -- What a call answers, from what it came to and what it told of this.
-use Rattle.std.proofs.Common.{◌⊎◌, inl, inr, ◌≡◌, refl, sym, ap, subst, ◌∙◌}
+use Rattle.std.proofs.Common.{◌⊎◌, ℕ, inl, inr, ◌≡◌, refl, sym, ap, subst, ◌∙◌, arith}
 use Rattle.std.specs.Prelude.{None}
-use Rattle.outside_io.specs.State.{WroteFront, Wrote}
+use Rattle.outside_io.specs.State.{Rose, WroteFront}
+use Rattle.outside_io.specs.Counts.{raised}
 use Rattle.outside_io.specs.Causes.{RunOutcome, CameTo, CutOff, ReadFault, WriteFault, NoMemory}
 use Rattle.outside_io.specs.Met.{Follows}
 use Rattle.outside_io.proofs.Callers.{if_told, meets_forgotten}
@@ -12,8 +13,12 @@ use Rattle.lue_run.specs.Words.{command_of}
 use Rattle.lue_run.specs.Ends.{CourseEnd, Usage, OfScript, why_of, end_answer, answer_for}
 use Rattle.lue_run.specs.Lines.{line_of, status_of}
 use Rattle.lue_run.specs.Course.{course}
-use Rattle.lue_run.specs.Answers.{Call, CameOut, HasLine, IsComplete, IsUsage, IsShown, IsVerdict, IsVerdictKind, IsVerdictOver, LineIsWritten, KeepsCounts, NoFault}
+use Rattle.lue_run.specs.Answers.{Call, CameOut, HasLine, IsComplete, IsUsage, IsShown, IsVerdict, IsVerdictKind, IsVerdictOver, LineIsWritten, KeepsCounts, NoFault, WroteWhole}
 use Rattle.lue_run.specs.inside.Top.{AnswersSo, Tells}
+
+-- a count that was raised rose
+rose_by : (before now : ℕ) → now ≡ raised before → Rose before now
+rose_by before now e = omega (arith, e)
 
 -- ---- by how the run of the call came out
 
@@ -45,13 +50,13 @@ module _ (call : Call) where
   shown_of (CutOff (WriteFault name)) usage m = m
   shown_of (CutOff NoMemory) usage m = m
 
-  complete_of : NoFault call → (outcome : RunOutcome CourseEnd) → CameOut call outcome → Wrote call.sink_before call.sink_after (line_of (answer_for outcome)) → IsComplete call (answer_for outcome)
+  complete_of : NoFault call → (outcome : RunOutcome CourseEnd) → CameOut call outcome → WroteWhole call.sink_before call.sink_after (line_of (answer_for outcome)) → IsComplete call (answer_for outcome)
   complete_of none (CameTo end) m w = inr (verdict_at end m, w)
   complete_of none (CutOff (ReadFault name)) m w = absurd (none.reads m.cause)
   complete_of none (CutOff (WriteFault name)) m w = absurd (none.puts m.cause)
   complete_of none (CutOff NoMemory) m w = inl refl
 
-  written_of : (end : Ended) → Wrote call.sink_before call.sink_after (line_of end) → LineIsWritten call end
+  written_of : (end : Ended) → WroteWhole call.sink_before call.sink_after (line_of end) → LineIsWritten call end
   written_of (top.OutFault instead) w = tt
   written_of end w = w
 
@@ -81,7 +86,7 @@ module _ (call : Call) (answer : Ended) (a : AnswersSo call.words call.before ca
         has_line = subst HasLine a.comes.is t.2.has_line;
         usage = λ is. a.comes.usage (a.comes.is ∙ is);
         status = subst (λ end. t.0 ≡ status_of end) a.comes.is t.2.status;
-        rose = t.2.rose;
+        failed = t.2.failed;
         front = subst (λ end. WroteFront call.sink_before call.sink_after (line_of end)) a.comes.is t.2.front;
       })
 
@@ -98,9 +103,9 @@ module _ (call : Call) (answer : Ended) (a : AnswersSo call.words call.before ca
     where
       by : Tells a.end call.sink_before call.sink_after answer → IsComplete call answer
       by (inl t) = subst (IsComplete call) (sym (said t.0))
-          (complete_of call none a.comes.outcome a.comes.came (subst (λ end. Wrote call.sink_before call.sink_after (line_of end)) a.comes.is t.1))
+          (complete_of call none a.comes.outcome a.comes.came (subst (λ end. WroteWhole call.sink_before call.sink_after (line_of end)) a.comes.is t.1))
       by (inr (inl t)) = inl t.0
-      by (inr (inr t)) = absurd (none.writes t.2.rose)
+      by (inr (inr t)) = absurd (none.writes (rose_by call.sink_before.faults call.sink_after.faults t.2.failed))
 
   pub refused_told : command_of call.words ≡ None → IsUsage call answer
   refused_told none = record { untouched = a.comes.untouched none; said = by a.tells }

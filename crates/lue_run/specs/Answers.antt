@@ -1,6 +1,7 @@
 -- What a call of the program answers, and why.
 use Rattle.std.specs.Prelude.{◌≡◌, ◌≤◌, ◌⊎◌, List, ℕ, None, Some, IfSome, ⊤}
 use Rattle.outside_io.specs.State.{Files, FolderState, SinkState, NoCountFell, Rose, Wrote, WroteFront}
+use Rattle.outside_io.specs.Counts.{raised}
 use Rattle.outside_io.specs.Causes.{ReadFault, WriteFault, NoMemory, RunOutcome, CutOff}
 use Rattle.outside_io.specs.Events.{files_after}
 use Rattle.outside_io.specs.Met.{PutsGrew, HasFaults, Meets}
@@ -64,15 +65,15 @@ HasLine (OutFault instead) = ⊥
 HasLine Memory = ⊥
 HasLine other = ⊤
 
--- The call came out with an answer that has a line, whose status is told instead; the sink failed, and got a front of it.
--- It was usage for no command alone.
+-- The call came out with an answer that has a line, whose status is told instead; the sink counted one fault, and got a
+-- front of the line. It was usage for no command alone.
 pub record CouldNotWrite (call : Call) (instead : ℕ) : Type 0 where
   pub outcome : RunOutcome CourseEnd
   pub came : CameOut call outcome
   pub has_line : HasLine (answer_for outcome)
   pub usage : answer_for outcome ≡ Usage → command_of call.words ≡ None
   pub status : instead ≡ status_of (answer_for outcome)
-  pub rose : Rose call.sink_before.faults call.sink_after.faults
+  pub failed : call.sink_after.faults ≡ raised call.sink_before.faults
   pub front : WroteFront call.sink_before call.sink_after (line_of (answer_for outcome))
 
 -- What shows each answer: words that are no command, a count of the folder that rose, the read or put of the course at
@@ -94,10 +95,15 @@ pub record IsUsage (call : Call) (answer : Ended) : Type 0 where
 
 -- ---- the line
 
+-- the sink got these bytes and nothing else, where it tells its bytes, and counted no fault
+pub record WroteWhole (old new : SinkState) (bytes : List ℕ) : Type 0 where
+  pub written : Wrote old new bytes
+  pub faults : new.faults ≡ old.faults
+
 -- The sink got the line of the answer and nothing else; none for want of memory. After a failed write the cause says what.
 abbrev pub LineIsWritten : Call → Ended → Type 0
 LineIsWritten call (OutFault instead) = ⊤
-LineIsWritten call answer = Wrote call.sink_before call.sink_after (line_of answer)
+LineIsWritten call answer = WroteWhole call.sink_before call.sink_after (line_of answer)
 
 -- ---- where nothing failed
 
@@ -109,7 +115,7 @@ pub record NoFault (call : Call) : Type 0 where
 
 -- the verdict with its outputs put and its line written, or want of memory
 abbrev pub IsComplete : Call → Ended → Type 0
-IsComplete call answer = (answer ≡ Memory) ⊎ (IsVerdict call answer × Wrote call.sink_before call.sink_after (line_of answer))
+IsComplete call answer = (answer ≡ Memory) ⊎ (IsVerdict call answer × WroteWhole call.sink_before call.sink_after (line_of answer))
 
 -- no count of the folder or of the sink fell
 pub record KeepsCounts (call : Call) : Type 0 where

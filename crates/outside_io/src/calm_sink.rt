@@ -1,5 +1,6 @@
 ghost use Rattle.std.specs.Prelude.{◌≡◌, ◌≤◌, length, IsOk, MatchResult};
-ghost use Rattle.outside_io.specs.State.{Rose, Wrote, WroteFront};
+ghost use Rattle.outside_io.specs.Counts.{after_write};
+ghost use Rattle.outside_io.specs.State.{Wrote, WroteFront};
 ghost use Rattle.outside_io.specs.CalmSink.{calm_sink_state, byte_count, count_after};
 
 use crate::{Sink, SinkFailed};
@@ -32,9 +33,9 @@ impl Sink for CalmSink {
     fn write_all(&mut self, bytes: &[u8]) -> Result<(), SinkFailed>
         ensures answer { MatchResult result
             (λ _. Wrote (calm_sink_state self.old) (calm_sink_state self.new) bytes.now)
-            (λ _. Rose (calm_sink_state self.old).faults (calm_sink_state self.new).faults
-            × WroteFront (calm_sink_state self.old) (calm_sink_state self.new) bytes.now) }
+            (λ _. WroteFront (calm_sink_state self.old) (calm_sink_state self.new) bytes.now) }
         ensures later { (calm_sink_state self.old).faults ≤ (calm_sink_state self.new).faults }
+        ensures counts { (calm_sink_state self.new).faults ≡ after_write (calm_sink_state self.old).faults result }
         ensures never_fails { IsOk result }
         ensures count { byte_count self.new ≡ count_after (byte_count self.old) (length bytes.now) }
     {

@@ -58,7 +58,7 @@ impl MemSink {
 
 impl Sink for MemSink {
     ghost use Rattle.std.specs.Prelude.{◌≡◌, true, false, MatchResult};
-    ghost use Rattle.outside_io.specs.State.{Rose, Wrote, WroteFront};
+    ghost use Rattle.outside_io.specs.State.{Wrote, WroteFront};
     ghost use Rattle.outside_io.specs.Counts.{after_write};
     ghost use Rattle.outside_io.specs.MemSink.{mem_sink_state, sink_calls, WritesNothing, AppendsWhatFits};
     ghost use Rattle.outside_io.specs.FailingCalls.{is_next_failing, CallMade};
@@ -68,10 +68,9 @@ impl Sink for MemSink {
     fn write_all(&mut self, bytes: &[u8]) -> Result<(), SinkFailed>
         ensures answer { MatchResult result
             (λ _. Wrote (mem_sink_state self.old) (mem_sink_state self.new) bytes.now)
-            (λ _. Rose (mem_sink_state self.old).faults (mem_sink_state self.new).faults
-            × WroteFront (mem_sink_state self.old) (mem_sink_state self.new) bytes.now) }
+            (λ _. WroteFront (mem_sink_state self.old) (mem_sink_state self.new) bytes.now) }
         ensures later { (mem_sink_state self.old).faults ≤ (mem_sink_state self.new).faults }
-        ensures faults { (mem_sink_state self.new).faults ≡ after_write (mem_sink_state self.old).faults result }
+        ensures counts { (mem_sink_state self.new).faults ≡ after_write (mem_sink_state self.old).faults result }
         ensures refused { is_next_failing (sink_calls self.old) ≡ true → WritesNothing self.old self.new result }
         ensures written { is_next_failing (sink_calls self.old) ≡ false → AppendsWhatFits self.old self.new bytes.now result }
         ensures counted { CallMade (sink_calls self.old) (sink_calls self.new) }

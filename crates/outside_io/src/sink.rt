@@ -1,12 +1,13 @@
-ghost use Rattle.std.specs.Prelude.{◌≤◌, MatchResult};
-ghost use Rattle.outside_io.specs.State.{SinkState, Rose, Wrote, WroteFront};
+ghost use Rattle.std.specs.Prelude.{◌≡◌, ◌≤◌, MatchResult};
+ghost use Rattle.outside_io.specs.Counts.{after_write};
+ghost use Rattle.outside_io.specs.State.{SinkState, Wrote, WroteFront};
 
 /// A piece was not written whole: a front of it was, maybe none of it.
 #[derive(Clone, Copy, Debug, PartialEq, Eq)]
 pub struct SinkFailed;
 
-/// Where a run writes its one line. A failure raises the count of faults, which never falls and stands still at its
-/// last value, 2^64 - 1.
+/// Where a run writes its one line. A failure raises the count of faults by one, and nothing else does; the count never
+/// falls, and stands still at its last value, 2^64 - 1.
 pub trait Sink {
     /// What it tells: the bytes written, where it knows them, and its count of faults.
     ghost state: { Self → SinkState };
@@ -15,7 +16,7 @@ pub trait Sink {
     fn write_all(&mut self, bytes: &[u8]) -> Result<(), SinkFailed>
         ensures answer { MatchResult result
             (λ _. Wrote (state self.old) (state self.new) bytes.now)
-            (λ _. Rose (state self.old).faults (state self.new).faults
-            × WroteFront (state self.old) (state self.new) bytes.now) }
-        ensures later { (state self.old).faults ≤ (state self.new).faults };
+            (λ _. WroteFront (state self.old) (state self.new) bytes.now) }
+        ensures later { (state self.old).faults ≤ (state self.new).faults }
+        ensures counts { (state self.new).faults ≡ after_write (state self.old).faults result };
 }

@@ -1,6 +1,6 @@
 ghost use Rattle.std.specs.Prelude.{◌≡◌, ◌≤◌, MatchResult, OnOk};
 ghost use Rattle.std.specs.Io.KnownBytes.{Appends};
-ghost use Rattle.outside_io.specs.State.{Rose, Wrote, WroteFront};
+ghost use Rattle.outside_io.specs.State.{Wrote, WroteFront};
 ghost use Rattle.outside_io.specs.Counts.{after_write};
 ghost use Rattle.outside_io.specs.StdSink.{std_sink_state};
 
@@ -30,10 +30,9 @@ impl<R: Print + Drop> Sink for StdSink<R> {
     fn write_all(&mut self, bytes: &[u8]) -> Result<(), SinkFailed>
         ensures answer { MatchResult result
             (λ _. Wrote (std_sink_state self.old) (std_sink_state self.new) bytes.now)
-            (λ _. Rose (std_sink_state self.old).faults (std_sink_state self.new).faults
-            × WroteFront (std_sink_state self.old) (std_sink_state self.new) bytes.now) }
+            (λ _. WroteFront (std_sink_state self.old) (std_sink_state self.new) bytes.now) }
         ensures later { (std_sink_state self.old).faults ≤ (std_sink_state self.new).faults }
-        ensures faults { (std_sink_state self.new).faults ≡ after_write (std_sink_state self.old).faults result }
+        ensures counts { (std_sink_state self.new).faults ≡ after_write (std_sink_state self.old).faults result }
     {
         if write_piece(&mut io::writer(&self.rt), bytes).is_err() {
             self.faults = self.faults.saturating_add(1);

@@ -5,4 +5,4 @@ use Rattle.dusterindigo.proofs.run_words.Goals as goal
 pub returns : goal.returns
 returns g c =
     let said = c.lue_plain-answer.ensures in
-    ends_with _ _ _ c.status.ensures said.verdict said.shown said.line said.complete said.refused
+    ends_with _ _ _ c.status.ensures said.verdict said.shown said.line said.complete said.refused said.counts

@@ -1,6 +1,7 @@
 -- What the parts of a top call answer.
 use Rattle.std.specs.Prelude.{◌≡◌, ◌⊎◌, ◌≤◌, List, ℕ, [], None}
-use Rattle.outside_io.specs.State.{FolderState, SinkState, Rose, Wrote, WroteFront}
+use Rattle.outside_io.specs.State.{FolderState, SinkState, WroteFront}
+use Rattle.outside_io.specs.Counts.{raised}
 use Rattle.outside_io.specs.Causes.{RunOutcome}
 use Rattle.outside_io.specs.Met.{Meets}
 use Rattle.lue_run.specs.declared.ended.Ended.{Ended}
@@ -9,7 +10,7 @@ use Rattle.lue_run.specs.Ends.{CourseEnd, why_of, answer_for}
 use Rattle.lue_run.specs.Lines.{line_of, status_of}
 use Rattle.lue_run.specs.Course.{course}
 use Rattle.lue_run.specs.Words.{command_of}
-use Rattle.lue_run.specs.Answers.{HasLine}
+use Rattle.lue_run.specs.Answers.{HasLine, WroteWhole}
 
 -- what the words came to before their line
 pub record ComesTo (words : List (List ℕ)) (old new : FolderState) (end : Ended) : Type 0 where
@@ -24,14 +25,14 @@ pub record ComesTo (words : List (List ℕ)) (old new : FolderState) (end : Ende
 pub record Unwritten (end : Ended) (old new : SinkState) (instead : ℕ) : Type 0 where
   pub has_line : HasLine end
   pub status : instead ≡ status_of end
-  pub rose : Rose old.faults new.faults
+  pub failed : new.faults ≡ raised old.faults
   pub front : WroteFront old new (line_of end)
 
 -- what is told of an end: its line and nothing else; or, for want of memory, nothing; or a front of its line, and its status
 abbrev pub Tells : Ended → SinkState → SinkState → Ended → Type 0
 Tells end old new answer =
-    ((answer ≡ end) × Wrote old new (line_of end))
-    ⊎ ((answer ≡ Memory) × Wrote old new [])
+    ((answer ≡ end) × WroteWhole old new (line_of end))
+    ⊎ ((answer ≡ Memory) × WroteWhole old new [])
     ⊎ ((instead : ℕ) × (answer ≡ OutFault instead) × Unwritten end old new instead)
 
 -- what is answered: the words came to an end, and that is told
