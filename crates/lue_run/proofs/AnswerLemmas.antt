@@ -39,13 +39,13 @@ module _ (call : Call) where
 
   shown_of : (outcome : RunOutcome CourseEnd) → (answer_for outcome ≡ top.Usage → command_of call.words ≡ None) → CameOut call outcome → IsShown call (answer_for outcome)
   shown_of (CameTo Usage) usage m = usage refl
-  shown_of (CameTo (OfScript (RanToEnd files steps))) usage m = tt
+  shown_of (CameTo (OfScript (RanToEnd files steps))) usage m = m.cause
   shown_of (CameTo (OfScript (Missing name))) usage m = m.cause
   shown_of (CameTo (OfScript (TooLong name))) usage m = m.cause
-  shown_of (CameTo (OfScript (Script fault))) usage m = tt
-  shown_of (CameTo (OfScript (Input name kind))) usage m = tt
-  shown_of (CameTo (OfScript (TooManyTasks count))) usage m = tt
-  shown_of (CameTo (OfScript (Overflow at))) usage m = tt
+  shown_of (CameTo (OfScript (Script fault))) usage m = m.cause
+  shown_of (CameTo (OfScript (Input name kind))) usage m = m.cause
+  shown_of (CameTo (OfScript (TooManyTasks count))) usage m = m.cause
+  shown_of (CameTo (OfScript (Overflow at))) usage m = m.cause
   shown_of (CutOff (ReadFault name)) usage m = m
   shown_of (CutOff (WriteFault name)) usage m = m
   shown_of (CutOff NoMemory) usage m = m

@@ -2,7 +2,7 @@
 use Rattle.std.specs.Prelude.{◌≡◌, ◌≤◌, ◌⊎◌, List, ℕ, None, Some, IfSome, ⊤}
 use Rattle.outside_io.specs.State.{Files, FolderState, SinkState, NoCountFell, Rose, Wrote, WroteFront}
 use Rattle.outside_io.specs.Counts.{raised}
-use Rattle.outside_io.specs.Causes.{ReadFault, WriteFault, NoMemory, RunOutcome, CutOff}
+use Rattle.outside_io.specs.Causes.{ReadFault, WriteFault, NoMemory, RunOutcome, CutOff, HasCounted}
 use Rattle.outside_io.specs.Events.{files_after}
 use Rattle.outside_io.specs.Met.{PutsGrew, HasFaults, Meets}
 use Rattle.lue_run.specs.declared.ended.Ended.{Ended}
@@ -76,17 +76,18 @@ pub record CouldNotWrite (call : Call) (instead : ℕ) : Type 0 where
   pub failed : call.sink_after.faults ≡ raised call.sink_before.faults
   pub front : WroteFront call.sink_before call.sink_after (line_of (answer_for outcome))
 
--- What shows each answer: words that are no command, a count of the folder that rose, the read or put of the course at
--- which the folder failed, or the line that could not be written. The verdict shows the others.
+-- What shows each answer: words that are no command, the one file that was counted as absent or too long, the read or put
+-- of the course at which the folder failed, or the line that could not be written. For the others no file was counted so,
+-- and the verdict shows them.
 abbrev pub IsShown : Call → Ended → Type 0
 IsShown call Usage = command_of call.words ≡ None
-IsShown call (Missing name) = Rose call.before.absents call.after.absents
-IsShown call (TooLong name) = Rose call.before.overlongs call.after.overlongs
+IsShown call (Missing name) = HasCounted call.after (raised call.before.absents) call.before.overlongs
+IsShown call (TooLong name) = HasCounted call.after call.before.absents (raised call.before.overlongs)
 IsShown call (FolderReadFault name) = CameOut call (CutOff (ReadFault name))
 IsShown call (FolderWriteFault name) = CameOut call (CutOff (WriteFault name))
 IsShown call (OutFault instead) = CouldNotWrite call instead
 IsShown call Memory = CameOut call (CutOff NoMemory)
-IsShown call other = ⊤
+IsShown call other = HasCounted call.after call.before.absents call.before.overlongs
 
 -- words that are no command touch nothing, and that is said
 pub record IsUsage (call : Call) (answer : Ended) : Type 0 where

@@ -10,7 +10,7 @@ use Rattle.outside_io.specs.State.{Files, PutPair, FolderState, NoCountFell, Sam
 use Rattle.outside_io.specs.Refusals.{ReadRefused, PutRefused}
 use Rattle.outside_io.specs.Events.{Event, Read, Put, Course, Run, puts_of, files_after}
 use Rattle.outside_io.specs.Runs.{settled, within_limit, reading, putting, continued, ◌>>=◌, finished, afterwards, end_as}
-use Rattle.outside_io.specs.Causes.{Fault, ReadFault, WriteFault, NoMemory, RunOutcome, CameTo, CutOff, outcome_as, stopped_by, Why, ByContents, ByAbsence, ByLength, why_by, RoseBy, RoseFor, HasCause}
+use Rattle.outside_io.specs.Causes.{Fault, ReadFault, WriteFault, NoMemory, RunOutcome, CameTo, CutOff, outcome_as, stopped_by, Why, ByContents, ByAbsence, ByLength, why_by, HasCounted, CountsRefused, RoseFor, HasCause}
 use Rattle.outside_io.specs.Counts.{Counts, after_put, after_read, counts_of, raised}
 use Rattle.outside_io.specs.Met.{PutsGrew, DidAll, HoldsBut, DidUpTo, IsCutAt, Follows, HasFaults, OneFault, CountsFaults, Meets}
 use Rattle.outside_io.specs.inside.Parts.{Settles}
@@ -20,26 +20,36 @@ use Rattle.outside_io.proofs.EventLemmas.{applied_on, grew_on, grew_by_none}
 
 -- ---- counts
 
-rose_by_later : (old mid new : FolderState) (why : Why) → NoCountFell old mid → RoseBy mid new why → RoseBy old new why
-rose_by_later old mid new ByContents l r = tt
-rose_by_later old mid new ByAbsence l r = omega (arith, l.absents, r)
-rose_by_later old mid new ByLength l r = omega (arith, l.overlongs, r)
+-- no file was found absent or too long
+abbrev pub NoneRefused : FolderState → FolderState → Type 0
+NoneRefused old new = HasCounted new old.absents old.overlongs
+
+none_refused : (s : FolderState) → NoneRefused s s
+none_refused s = record { absents = refl; overlongs = refl }
+
+same_refused : (old new : FolderState) → counts_of new ≡ counts_of old → NoneRefused old new
+same_refused old new same = record { absents = ap (λ (c : Counts). c.absents) same; overlongs = ap (λ (c : Counts). c.overlongs) same }
+
+refused_later : (old mid new : FolderState) (why : Why) → NoneRefused old mid → CountsRefused mid new why → CountsRefused old new why
+refused_later old mid new ByContents a b = record { absents = b.absents ∙ a.absents; overlongs = b.overlongs ∙ a.overlongs }
+refused_later old mid new ByAbsence a b = record { absents = b.absents ∙ ap raised a.absents; overlongs = b.overlongs ∙ a.overlongs }
+refused_later old mid new ByLength a b = record { absents = b.absents ∙ a.absents; overlongs = b.overlongs ∙ ap raised a.overlongs }
 
 rose_for_later : (old mid new : FolderState) (fault : Fault) → NoCountFell old mid → RoseFor mid new fault → RoseFor old new fault
 rose_for_later old mid new (ReadFault name) l r = omega (arith, l.reads, r)
 rose_for_later old mid new (WriteFault name) l r = omega (arith, l.puts, r)
 rose_for_later old mid new NoMemory l r = tt
 
--- a count that rose at last rose over all
-cause_later : {X : Type 0} (why : X → Why) (old mid new : FolderState) (outcome : RunOutcome X) → NoCountFell old mid → HasCause why mid new outcome → HasCause why old new outcome
-cause_later why old mid new (CameTo end) l r = rose_by_later old mid new (why end) l r
-cause_later why old mid new (CutOff fault) l r = rose_for_later old mid new fault l r
+-- what the counts show at last they show over all, where no file was found absent or too long at first
+cause_later : {X : Type 0} (why : X → Why) (old mid new : FolderState) (outcome : RunOutcome X) → NoCountFell old mid → NoneRefused old mid → HasCause why mid new outcome → HasCause why old new outcome
+cause_later why old mid new (CameTo end) l none r = refused_later old mid new (why end) none r
+cause_later why old mid new (CutOff fault) l none r = rose_for_later old mid new fault l r
 
--- a count that rose at first rose over all
-rose_by_earlier : (old mid new : FolderState) (why : Why) → NoCountFell mid new → RoseBy old mid why → RoseBy old new why
-rose_by_earlier old mid new ByContents l r = tt
-rose_by_earlier old mid new ByAbsence l r = omega (arith, l.absents, r)
-rose_by_earlier old mid new ByLength l r = omega (arith, l.overlongs, r)
+-- what the counts show at first they show over all, where no file was found absent or too long at last
+refused_earlier : (old mid new : FolderState) (why : Why) → CountsRefused old mid why → NoneRefused mid new → CountsRefused old new why
+refused_earlier old mid new ByContents a b = record { absents = b.absents ∙ a.absents; overlongs = b.overlongs ∙ a.overlongs }
+refused_earlier old mid new ByAbsence a b = record { absents = b.absents ∙ a.absents; overlongs = b.overlongs ∙ a.overlongs }
+refused_earlier old mid new ByLength a b = record { absents = b.absents ∙ a.absents; overlongs = b.overlongs ∙ a.overlongs }
 
 no_count_fell : (old mid new : FolderState) → NoCountFell old mid → NoCountFell mid new → NoCountFell old new
 no_count_fell old mid new a b = record {
@@ -186,7 +196,7 @@ module _ {X Y E : Type 0} (why : E → Why) (run : Run (Result X E)) (next : X �
   pub meets_on : (old mid new : FolderState) (x : X) (outcome : RunOutcome (Result Y E)) → Meets (why_by why) run old mid (CameTo (Ok x)) → Meets (why_by why) (next x) mid new outcome → Meets (why_by why) (run >>= next) old new outcome
   meets_on old mid new x outcome m n = record {
     later = no_count_fell old mid new m.later n.later;
-    cause = cause_later (why_by why) old mid new outcome m.later n.cause;
+    cause = cause_later (why_by why) old mid new outcome m.later m.cause n.cause;
     faults = faults_later old mid new outcome m.faults n.faults;
     follows = if_told old.holds (λ files. Follows (run files) files old mid (CameTo (Ok x))) (λ files. Follows ((run >>= next) files) files old new outcome)
         (λ files f. went_on old mid new x outcome files n.follows f) m.follows;
@@ -208,7 +218,7 @@ module _ {X : Type 0} (why : X → Why) where
   pub meets_settled : (end : X) (s : FolderState) (outcome : RunOutcome X) → Settles why end outcome → Meets why (settled end) s s outcome
   meets_settled end s (CameTo x) is = record {
     later = none_fell s;
-    cause = subst (RoseBy s s) (sym is.1) tt;
+    cause = subst (CountsRefused s s) (sym is.1) (none_refused s);
     faults = no_fault s;
     follows = where_told s s.holds (λ files. Follows (settled end files) files s s (CameTo x)) refl (λ files h. (sym is.0, did_none s s files (read_keeps_all s) h [] refl));
   }
@@ -253,7 +263,7 @@ module _ {X : Type 0} (why : X → Why) where
 
 module _ {E : Type 0} (why : E → Why) (missing too_long : List ℕ → E) (name : List ℕ) (limit : ℕ) (old new : FolderState) (k : ReadKeeps old new) where
   -- a read by what it gives, where the files are told
-  meets_read_by : (end : Result (List ℕ) E) → new.read_faults ≡ old.read_faults → RoseBy old new (why_by why end) → IfSome old.holds (λ files. end ≡ within_limit (missing name) (too_long name) limit (get files name)) →
+  meets_read_by : (end : Result (List ℕ) E) → new.read_faults ≡ old.read_faults → CountsRefused old new (why_by why end) → IfSome old.holds (λ files. end ≡ within_limit (missing name) (too_long name) limit (get files name)) →
       Meets (why_by why) (reading missing too_long name limit) old new (CameTo end)
   meets_read_by end none cause gives = record { later = k.later; cause = cause; faults = record { reads = none; puts = k.put_faults }; follows = read_told old.holds refl gives }
     where
@@ -264,13 +274,14 @@ module _ {E : Type 0} (why : E → Why) (missing too_long : List ℕ → E) (nam
 
   -- the folder gave the bytes
   pub meets_read : (bytes : List ℕ) → counts_of new ≡ counts_of old → IsFound old name limit bytes → Meets (why_by why) (reading missing too_long name limit) old new (CameTo (Ok bytes))
-  meets_read bytes counts found = meets_read_by (Ok bytes) (ap (λ (c : Counts). c.read_faults) counts) tt
+  meets_read bytes counts found = meets_read_by (Ok bytes) (ap (λ (c : Counts). c.read_faults) counts) (same_refused old new counts)
       (if_told old.holds (λ files. get files name ≡ Some bytes) (λ files. Ok bytes ≡ within_limit (missing name) (too_long name) limit (get files name))
       (λ files f. sym (ap (within_limit (missing name) (too_long name) limit) f ∙ ap (λ b. cond b (Ok bytes) (Err (too_long name))) (le-leb (length bytes) limit found.short))) found.held)
 
   -- there is no file of that name
   pub meets_absent : why (missing name) ≡ ByAbsence → counts_of new ≡ after_read {X = List ℕ} (counts_of old) (Err Absent) → ReadRefused old new name limit Absent → Meets (why_by why) (reading missing too_long name limit) old new (CameTo (Err (missing name)))
-  meets_absent is counts r = meets_read_by (Err (missing name)) (ap (λ (c : Counts). c.read_faults) counts) (subst (RoseBy old new) (sym is) r.0)
+  meets_absent is counts r = meets_read_by (Err (missing name)) (ap (λ (c : Counts). c.read_faults) counts)
+      (subst (CountsRefused old new) (sym is) (record { absents = ap (λ (c : Counts). c.absents) counts; overlongs = ap (λ (c : Counts). c.overlongs) counts }))
       (if_told old.holds (λ files. get files name ≡ None) (λ files. Err (missing name) ≡ within_limit (missing name) (too_long name) limit (get files name))
       (λ files f. sym (ap (within_limit (missing name) (too_long name) limit) f)) r.1)
 
@@ -280,7 +291,8 @@ module _ {E : Type 0} (why : E → Why) (missing too_long : List ℕ → E) (nam
 
   -- the file is longer than the limit
   pub meets_long : why (too_long name) ≡ ByLength → counts_of new ≡ after_read {X = List ℕ} (counts_of old) (Err TooLong) → ReadRefused old new name limit TooLong → Meets (why_by why) (reading missing too_long name limit) old new (CameTo (Err (too_long name)))
-  meets_long is counts r = meets_read_by (Err (too_long name)) (ap (λ (c : Counts). c.read_faults) counts) (subst (RoseBy old new) (sym is) r.0)
+  meets_long is counts r = meets_read_by (Err (too_long name)) (ap (λ (c : Counts). c.read_faults) counts)
+      (subst (CountsRefused old new) (sym is) (record { absents = ap (λ (c : Counts). c.absents) counts; overlongs = ap (λ (c : Counts). c.overlongs) counts }))
       (if_told old.holds (λ files. IsSomeAnd (get files name) (λ bytes. limit < length bytes)) (λ files. Err (too_long name) ≡ within_limit (missing name) (too_long name) limit (get files name))
       (λ files f. long_file (get files name) f) r.1)
 
@@ -297,7 +309,7 @@ module _ {E : Type 0} (why : E → Why) (missing too_long : List ℕ → E) (nam
 module _ {E : Type 0} (why : E → Why) (name bytes : List ℕ) (old new : FolderState) (k : PutKeeps old new) where
   -- the file was put
   pub meets_put : counts_of new ≡ counts_of old → IsPut old new name bytes → Meets (why_by why) (putting name bytes) old new (CameTo (Ok tt))
-  meets_put counts p = record { later = k.later; cause = tt; faults = record { reads = k.read_faults; puts = ap (λ (c : Counts). c.put_faults) counts }; follows = put_told old.holds p.holds }
+  meets_put counts p = record { later = k.later; cause = same_refused old new counts; faults = record { reads = k.read_faults; puts = ap (λ (c : Counts). c.put_faults) counts }; follows = put_told old.holds p.holds }
     where
       put_told : (holds : Option Files) → new.holds ≡ option_map (λ files. insert files name bytes) holds → IfSome holds (λ files. Follows {X = Result (Unit {0}) E} (putting name bytes files) files old new (CameTo (Ok tt)))
       put_told None h = tt
@@ -334,7 +346,7 @@ module _ {X Y : Type 0} (why : X → Why) (why' : Y → Why) (f : X → Y) (same
   pub meets_end_as : (run : Run X) (old new : FolderState) (outcome : RunOutcome X) → Meets why run old new outcome → Meets why' (end_as f run) old new (outcome_as f outcome)
   meets_end_as run old new (CameTo end) m = record {
     later = m.later;
-    cause = subst (RoseBy old new) (sym (same end)) m.cause;
+    cause = subst (CountsRefused old new) (sym (same end)) m.cause;
     faults = m.faults;
     follows = if_told old.holds (λ files. Follows (run files) files old new (CameTo end)) (λ files. Follows (end_as f run files) files old new (CameTo (f end))) (λ files g. (ap f g.0, g.1)) m.follows;
   }
@@ -348,7 +360,7 @@ module _ {X E : Type 0} (why : E → Why) (run : Run (Result X E)) (last : Resul
       Meets (why_by why) (afterwards run last) old new (CameTo end)
   meets_afterwards old mid new end m n = record {
     later = no_count_fell old mid new m.later n.later;
-    cause = rose_by_earlier old mid new (why_by why end) n.later m.cause;
+    cause = refused_earlier old mid new (why_by why end) m.cause n.cause;
     faults = faults_later {X = Result X E} old mid new (CameTo end) m.faults n.faults;
     follows = if_told old.holds (λ files. Follows (run files) files old mid (CameTo end)) (λ files. Follows (afterwards run last files) files old new (CameTo end)) (λ files f. both files f) m.follows;
   }
@@ -381,26 +393,20 @@ module _ {X E : Type 0} (why : E → Why) (run : Run (Result X E)) (last : Resul
           let second = last first.end (files_after (puts_of first.events) files) in
           subst (λ all. IsCutAt all files old new fault) (sym (more_of first.events second first.end)) (cut_more first.events second.events files old new fault f)
 
-  ended_last : (first : List Event) (second : Course (Result (Unit {0}) E)) (end : Result X E) (files : Files) (old new : FolderState) (outcome : RunOutcome E) →
-      Follows (record { events = first ++ second.events; end = second.end }) files old new (stopped_by outcome) → Follows (finished (first ++ second.events) end second.end) files old new (stopped_by outcome)
-  ended_last first second end files old new (CameTo e) f =
-      subst (λ o. Follows (finished (first ++ second.events) end o) files old new (CameTo (Err e))) f.0 (refl, f.1)
-  ended_last first second end files old new (CutOff fault) f = subst (λ all. IsCutAt all files old new fault) (sym (more_of first second end)) f
-
-  -- the first part came to its end, and the second ended the whole or was cut off
-  pub meets_last_stop : (old mid new : FolderState) (end : Result X E) (outcome : RunOutcome E) → Meets (why_by why) run old mid (CameTo end) → Meets (why_by why) (last end) mid new (stopped_by outcome) →
-      Meets (why_by why) (afterwards run last) old new (stopped_by outcome)
-  meets_last_stop old mid new end outcome m n = record {
+  -- the first part came to its end, and the second was cut off
+  pub meets_last_stop : (old mid new : FolderState) (end : Result X E) (fault : Fault) → Meets (why_by why) run old mid (CameTo end) → Meets (why_by why) (last end) mid new (CutOff fault) →
+      Meets (why_by why) (afterwards run last) old new (CutOff fault)
+  meets_last_stop old mid new end fault m n = record {
     later = no_count_fell old mid new m.later n.later;
-    cause = same_cause (Unit {0}) X why old new outcome (cause_later (why_by why) old mid new (stopped_by outcome) m.later n.cause);
-    faults = same_faults (Unit {0}) X old new outcome (faults_later old mid new (stopped_by outcome) m.faults n.faults);
-    follows = if_told old.holds (λ files. Follows (run files) files old mid (CameTo end)) (λ files. Follows (afterwards run last files) files old new (stopped_by outcome)) (λ files f. second_ended files f) m.follows;
+    cause = rose_for_later old mid new fault m.later n.cause;
+    faults = one_fault_later old mid new fault m.faults n.faults;
+    follows = if_told old.holds (λ files. Follows (run files) files old mid (CameTo end)) (λ files. Follows (afterwards run last files) files old new (CutOff fault)) (λ files f. second_cut files f) m.follows;
   }
     where
-      second_ended : (files : Files) → Follows (run files) files old mid (CameTo end) → Follows (afterwards run last files) files old new (stopped_by outcome)
-      second_ended files f =
+      second_cut : (files : Files) → Follows (run files) files old mid (CameTo end) → Follows (afterwards run last files) files old new (CutOff fault)
+      second_cut files f =
           let events = (run files).events in
           let after = files_after (puts_of events) files in
-          let h = after_told files old mid events (λ files. Follows (last end files) files mid new (stopped_by outcome)) f.1 n.follows in
-          subst (λ o. Follows (finished (events ++ (last o after).events) o (last o after).end) files old new (stopped_by outcome)) f.0
-          (ended_last events (last end after) end files old new outcome (follows_later files old mid new events f.1 (last end after) (stopped_by outcome) h))
+          let h = after_told files old mid events (λ files. IsCutAt (last end files).events files mid new fault) f.1 n.follows in
+          subst (λ o. Follows (finished (events ++ (last o after).events) o (last o after).end) files old new (CutOff fault)) f.0
+          (subst (λ all. IsCutAt all files old new fault) (sym (more_of events (last end after) end)) (cut_later files old mid new events f.1 (last end after).events fault h))

@@ -1,6 +1,7 @@
--- How a call that makes a run comes out, and which count of the folder shows it.
-use Rattle.std.specs.Prelude.{Ok, Err, Result, List, ℕ, ⊤}
+-- How a call that makes a run comes out, and which counts of the folder show it.
+use Rattle.std.specs.Prelude.{◌≡◌, Ok, Err, Result, List, ℕ, ⊤}
 use Rattle.outside_io.specs.State.{FolderState, Rose}
+use Rattle.outside_io.specs.Counts.{raised}
 
 -- what cuts a call off before the end of its run: a read or a put of that name that failed, or want of memory
 pub data Fault : Type 0 where
@@ -39,11 +40,16 @@ abbrev pub why_by : {X E : Type 0} → (E → Why) → Result X E → Why
 why_by why (Ok x) = ByContents
 why_by why (Err e) = why e
 
--- the count that shows why rose, where one shows it
-abbrev pub RoseBy : FolderState → FolderState → Why → Type 0
-RoseBy old new ByContents = ⊤
-RoseBy old new ByAbsence = Rose old.absents new.absents
-RoseBy old new ByLength = Rose old.overlongs new.overlongs
+-- the folder has counted so many files that were absent, and so many that were too long
+pub record HasCounted (s : FolderState) (of_absent of_long : ℕ) : Type 0 where
+  pub absents : s.absents ≡ of_absent
+  pub overlongs : s.overlongs ≡ of_long
+
+-- The file that ended a run since it was absent or too long was counted, and no other.
+abbrev pub CountsRefused : FolderState → FolderState → Why → Type 0
+CountsRefused old new ByContents = HasCounted new old.absents old.overlongs
+CountsRefused old new ByAbsence = HasCounted new (raised old.absents) old.overlongs
+CountsRefused old new ByLength = HasCounted new old.absents (raised old.overlongs)
 
 -- the count that shows the fault rose; none shows want of memory
 abbrev pub RoseFor : FolderState → FolderState → Fault → Type 0
@@ -51,7 +57,7 @@ RoseFor old new (ReadFault name) = Rose old.read_faults new.read_faults
 RoseFor old new (WriteFault name) = Rose old.put_faults new.put_faults
 RoseFor old new NoMemory = ⊤
 
--- the count that shows how the call came out rose, where one shows it
+-- the counts show how the call came out, where one shows it
 abbrev pub HasCause : {X : Type 0} → (X → Why) → FolderState → FolderState → RunOutcome X → Type 0
-HasCause why old new (CameTo end) = RoseBy old new (why end)
+HasCause why old new (CameTo end) = CountsRefused old new (why end)
 HasCause why old new (CutOff fault) = RoseFor old new fault

@@ -1,9 +1,10 @@
 -- The time series behind the steps, whichever way these ended.
 use Rattle.std.proofs.Common.{◌≡◌, ℕ, List, [], refl, subst, sym, Ok, Err, Result}
+use Rattle.std.specs.Prelude.{IfErr}
 use Rattle.outside_io.specs.State.{FolderState}
 use Rattle.outside_io.specs.Events.{Run}
 use Rattle.outside_io.specs.Runs.{afterwards, end_as, in_turn}
-use Rattle.outside_io.specs.Causes.{CameTo, CutOff, Fault, ReadFault, WriteFault, NoMemory, RunOutcome, outcome_as, outcome_by, stopped_by, why_by}
+use Rattle.outside_io.specs.Causes.{CameTo, CutOff, Fault, ReadFault, WriteFault, NoMemory, outcome_by, stopped_by, why_by}
 use Rattle.outside_io.specs.Met.{Meets}
 use Rattle.outside_io.proofs.Callers.{meets_afterwards, meets_cut_off, meets_end_as, meets_last_stop, meets_settled}
 use Rattle.run_session.specs.declared.ends.Stop.{Stop}
@@ -13,17 +14,12 @@ use Rattle.run_session.specs.Samples.{Sampled}
 use Rattle.run_session.specs.Steps.{Plan, Standing, StepsEnd, or_end, or_steps_end, samples_by, series_run, steps_and_series, steps_run}
 use Rattle.run_session.specs.inside.Parts.{CutsOff, MakesFor, stop_outcome}
 use Rattle.run_session.specs.inside.Running.{steps_outcome, why_steps}
-use Rattle.run_session.proofs.StepLoops.{stop_as, why_stop}
+use Rattle.run_session.proofs.StepLoops.{why_stop}
 
 -- why the whole ends so is why its steps do
 why_end : {X : Type 0} (r : Result X StepsEnd) → why_by why (or_end r) ≡ why_by why_steps r
 why_end (Ok x) = refl
 why_end (Err stop) = refl
-
--- a stop of the steps is one of the whole
-end_stopped : {X : Type 0} (samples : List Sampled) (o : RunOutcome ScriptEnd) → outcome_as (or_end {X = X}) (stopped_by (steps_outcome samples o)) ≡ stopped_by o
-end_stopped samples (CameTo end) = refl
-end_stopped samples (CutOff fault) = refl
 
 -- a stop that is a fault cuts a call off
 pub fault_cuts : (at : Stop) → CutsOff at → (fault : Fault) × (stop_outcome at ≡ CutOff fault)
@@ -73,24 +69,31 @@ module _ (plan : Plan) (s : Standing) (first count : ℕ) (old mid new : FolderS
       (meets_afterwards why_steps steps last_part old mid new end m
       (meets_end_as (why_by why) (why_by why_steps) (or_steps_end []) (why_stop []) (in_turn series_run tt (samples_by end)) mid new (CameTo (Ok tt)) puts))
 
+  -- the time series are cut off
+  series_cut : (end : Result Standing StepsEnd) (fault : Fault) → Meets (why_by why_steps) steps old mid (CameTo end) → Meets (why_by why) (in_turn series_run tt (samples_by end)) mid new (CutOff fault) →
+      Meets (why_by why) (steps_and_series plan s first count) old new (CutOff fault)
+  series_cut end fault m puts =
+      meets_end_as (why_by why_steps) (why_by why) or_end why_end both old new (CutOff fault)
+      (meets_last_stop why_steps steps last_part old mid new end fault m
+      (meets_end_as (why_by why) (why_by why_steps) (or_steps_end []) (why_stop []) (in_turn series_run tt (samples_by end)) mid new (CutOff fault) puts))
+
   -- a time series is not put
-  pub series_stop : (end : Result Standing StepsEnd) (o : RunOutcome ScriptEnd) → Meets (why_by why_steps) steps old mid (CameTo end) → Meets (why_by why) (in_turn series_run tt (samples_by end)) mid new (stopped_by o) →
-      Meets (why_by why) (steps_and_series plan s first count) old new (stopped_by o)
-  series_stop end o m puts =
-      let stopped = subst (Meets (why_by why_steps) (last_part end) mid new) (stop_as [] o)
-      (meets_end_as (why_by why) (why_by why_steps) (or_steps_end []) (why_stop []) (in_turn series_run tt (samples_by end)) mid new (stopped_by o) puts) in
-      subst (Meets (why_by why) (steps_and_series plan s first count) old new) (end_stopped [] o)
-      (meets_end_as (why_by why_steps) (why_by why) or_end why_end both old new (stopped_by (steps_outcome [] o)) (meets_last_stop why_steps steps last_part old mid new end (steps_outcome [] o) m stopped))
+  pub series_stop : (end : Result Standing StepsEnd) (at : Stop) → CutsOff at → Meets (why_by why_steps) steps old mid (CameTo end) → Meets (why_by why) (in_turn series_run tt (samples_by end)) mid new (stopped_by (stop_outcome at)) →
+      Meets (why_by why) (steps_and_series plan s first count) old new (stopped_by (stop_outcome at))
+  series_stop end at is m puts =
+      let cut = fault_cuts at is in
+      subst (λ o. Meets (why_by why) (steps_and_series plan s first count) old new (stopped_by o)) (sym cut.1)
+      (series_cut end cut.0 m (subst (λ o. Meets (why_by why) (in_turn series_run tt (samples_by end)) mid new (stopped_by o)) cut.1 puts))
 
   -- the steps are cut off
   pub steps_cut : (fault : Fault) → Meets (why_by why_steps) steps old new (CutOff fault) → Meets (why_by why) (steps_and_series plan s first count) old new (CutOff fault)
   steps_cut fault m = meets_end_as (why_by why_steps) (why_by why) or_end why_end both old new (CutOff fault) (meets_cut_off why_steps steps last_part old new fault m)
 
   -- the steps came to their end, and then the time series are put or not
-  pub series_result : (Is : Standing → Type 0) (t : Standing) → Is t → Meets (why_by why_steps) steps old mid (CameTo (Ok t)) → (r : Result (Unit {0}) Stop) → Meets (why_by why) (in_turn series_run tt t.samples) mid new (outcome_by stop_outcome r) →
+  pub series_result : (Is : Standing → Type 0) (t : Standing) → Is t → Meets (why_by why_steps) steps old mid (CameTo (Ok t)) → (r : Result (Unit {0}) Stop) → IfErr r CutsOff → Meets (why_by why) (in_turn series_run tt t.samples) mid new (outcome_by stop_outcome r) →
       MakesFor (λ t done. Is t) (steps_and_series plan s first count) old new r
-  series_result Is t is m (Ok done) puts = (t, is, series_put (Ok t) m puts)
-  series_result Is t is m (Err at) puts = series_stop (Ok t) (stop_outcome at) m puts
+  series_result Is t is m (Ok done) apart puts = (t, is, series_put (Ok t) m puts)
+  series_result Is t is m (Err at) apart puts = series_stop (Ok t) at apart m puts
 
   -- the steps were cut off by a fault
   pub fault_result : (samples : List Sampled) (at : Stop) → CutsOff at → Meets (why_by why_steps) steps old new (stopped_by (steps_outcome samples (stop_outcome at))) → Meets (why_by why) (steps_and_series plan s first count) old new (stopped_by (stop_outcome at))
@@ -108,8 +111,8 @@ module _ (plan : Plan) (s : Standing) (first count : ℕ) (old mid new : FolderS
       (series_put (Err (record { samples = samples; end = came.0 })) (subst (λ o. Meets (why_by why_steps) steps old mid (stopped_by (steps_outcome samples o))) came.1 m) puts)
 
   -- the files ended the steps, and then a time series is not put
-  pub stop_stop : (samples : List Sampled) (at : Stop) (o : RunOutcome ScriptEnd) → (CutsOff at → ⊥) → Meets (why_by why_steps) steps old mid (stopped_by (steps_outcome samples (stop_outcome at))) → Meets (why_by why) (in_turn series_run tt samples) mid new (stopped_by o) →
-      Meets (why_by why) (steps_and_series plan s first count) old new (stopped_by o)
-  stop_stop samples at o other m puts =
+  pub stop_stop : (samples : List Sampled) (at last : Stop) → CutsOff last → (CutsOff at → ⊥) → Meets (why_by why_steps) steps old mid (stopped_by (steps_outcome samples (stop_outcome at))) → Meets (why_by why) (in_turn series_run tt samples) mid new (stopped_by (stop_outcome last)) →
+      Meets (why_by why) (steps_and_series plan s first count) old new (stopped_by (stop_outcome last))
+  stop_stop samples at last is other m puts =
       let came = files_come at other in
-      series_stop (Err (record { samples = samples; end = came.0 })) o (subst (λ o. Meets (why_by why_steps) steps old mid (stopped_by (steps_outcome samples o))) came.1 m) puts
+      series_stop (Err (record { samples = samples; end = came.0 })) last is (subst (λ o. Meets (why_by why_steps) steps old mid (stopped_by (steps_outcome samples o))) came.1 m) puts

@@ -48,7 +48,7 @@ returns-then-deref-eq0-clause-meets g c =
     makes_on From All (evaluated_run plan [] 0) (λ reports. steps_and_series plan (standing_at_start plan) 1 plan.steps) (state c.args.folder.now) (state c.start.new.folder) (state c.put_samples.new.folder) made.0 made.2
     (λ t done from none. let first = start.asks none in from first.0 first.1 first.2) c.put_samples.result
     (series_result plan (standing_at_start plan) 1 plan.steps (state c.start.new.folder) (state c.start.new.folder) (state c.put_samples.new.folder) (λ t. From t tt) (standing_at_start plan) none
-    (no_steps plan (standing_at_start plan) 1 plan.steps zero (state c.start.new.folder)) c.put_samples.result (subst P samples c.put_samples.ensures.meets))
+    (no_steps plan (standing_at_start plan) 1 plan.steps zero (state c.start.new.folder)) c.put_samples.result c.put_samples.ensures.apart (subst P samples c.put_samples.ensures.meets))
 
 pub returns-clause-meets : goal.returns-clause-meets
 returns-clause-meets g c =

@@ -27,7 +27,7 @@ pub returns-in_err-put_samples-in-Err-clause-meets : goal.returns-in_err-put_sam
 returns-in_err-put_samples-in-Err-clause-meets g c =
     let plan = program_plan c.args.work.now.program.value c.args.work.now.inputs in
     makes_out _ (steps_and_series plan (standing_at_start plan) 1 plan.steps) _ _ c.from_residual.result _ c.from_residual.ensures.1
-    (stop_stop plan (standing_at_start plan) 1 plan.steps _ _ _ (map sampled_of c.run_steps.new.samples) c.in-Err.stop (stop_outcome _) (c.if-not-is_by_files.ensures.yes refl) c.in-Err.ensures.meets c.in_err-put_samples-in-Err.ensures.meets)
+    (stop_stop plan (standing_at_start plan) 1 plan.steps _ _ _ (map sampled_of c.run_steps.new.samples) c.in-Err.stop _ c.in_err-put_samples-in-Err.ensures.apart (c.if-not-is_by_files.ensures.yes refl) c.in-Err.ensures.meets c.in_err-put_samples-in-Err.ensures.meets)
 
 pub returns-in-Ok-clause-meets : goal.returns-in-Ok-clause-meets
 returns-in-Ok-clause-meets g c =
@@ -40,4 +40,4 @@ returns-in-Ok-clause-meets g c =
     let t = made.0 in
     let P : List Sampled → Type 0 = λ samples. Meets (why_by why) (in_turn series_run tt samples) (state c.run_steps.new.folder) (state c.put_samples.new.folder) (outcome_by stop_outcome c.put_samples.result) in
     let Is : Standing → Type 0 = λ t. AsksFrom (asked c.args.runner.now) (asked c.run_steps.new.runner) program inputs t.grids in
-    series_result plan (standing_at_start plan) 1 plan.steps _ _ _ Is t made.1 made.3 c.put_samples.result (subst P (sym made.2) c.put_samples.ensures.meets)
+    series_result plan (standing_at_start plan) 1 plan.steps _ _ _ Is t made.1 made.3 c.put_samples.result c.put_samples.ensures.apart (subst P (sym made.2) c.put_samples.ensures.meets)
