@@ -17,9 +17,10 @@ FACTORS = {"*": "*", "/": "/", "div": "/", "idiv": "idiv", "mod": "mod"}
 OPERATORS = set(COMPARISONS) | set(FACTORS) | set("and & or | xor not ! ~ + -".split())
 
 Token = namedtuple("Token", "at kind text")  # kind: word, number, symbol, file, end
-Binding = namedtuple("Binding", "name target is_number kind")
-Statement = namedtuple("Statement", "report name tree section")
-Script = namedtuple("Script", "bindings area steps statements")
+# `at` and `end` are the bytes where one begins and ends; `body` is where the section behind the area map may begin.
+Binding = namedtuple("Binding", "name target is_number kind at end")
+Statement = namedtuple("Statement", "report name tree section at end")
+Script = namedtuple("Script", "bindings area body steps statements")
 
 
 class Name(namedtuple("Name", "text")):
@@ -136,7 +137,7 @@ class Reader:
         self.take("areamap", then="areamap")
         area = self.take(kind="file").text
         self.take(";")
-        steps, statements = 0, []
+        body, steps, statements = self.behind, 0, []
         if self.sees("timer"):
             self.take("timer")
             steps = self.timer()
@@ -148,9 +149,10 @@ class Reader:
             self.section(statements, "dynamic")
         if self.look().kind != "end":
             self.wrong()
-        return Script(bindings, area, steps, statements)
+        return Script(bindings, area, body, steps, statements)
 
     def entry(self):
+        at = self.look().at
         name = self.take(kind="word").text
         self.take("=", then="entry")
         target = self.take(kind="file").text
@@ -159,7 +161,7 @@ class Reader:
             self.take(":")
             kind = WORDS[self.take(*WORDS).text]
         self.take(";")
-        return Binding(name, target, bool(DECIMAL.match(target.encode("ascii"))), kind)
+        return Binding(name, target, bool(DECIMAL.match(target.encode("ascii"))), kind, at, self.behind)
 
     def timer(self):
         numbers = []
@@ -178,7 +180,7 @@ class Reader:
         while self.sees_name() or self.sees("report"):
             if len(statements) == MOST_OF_A_KIND:
                 raise self.fault("many", self.look().at)
-            report = self.sees("report")
+            at, report = self.look().at, self.sees("report")
             if report:
                 self.take("report")
             name = self.take(kind="word").text
@@ -188,7 +190,7 @@ class Reader:
             tree = self.formula()
             self.parts = None
             self.take(";")
-            statements.append(Statement(report, name, tree, section))
+            statements.append(Statement(report, name, tree, section, at, self.behind))
 
     # ---- formulas, from the loosest operator to the tightest
 
