@@ -14,12 +14,18 @@ from second.script import SyntaxFault, read_script
 from second.texts import SPELLED, stack_file
 
 PROGRAM = os.environ.get("DUSTERINDIGO", "dusterindigo")
+if "/" in PROGRAM:
+    PROGRAM = os.path.abspath(PROGRAM)  # a path holds in scratch folders too
 
 
 def stop(why, status=2):
     """Ends a script with its name and why."""
     sys.stderr.write(f"{Path(sys.argv[0]).name}: {why}\n")
     sys.exit(status)
+
+
+def no_program(error):
+    stop(f"{PROGRAM}: {error.strerror}; DUSTERINDIGO names the program where it is not on the path", 3)
 
 
 def usage(text, asked):
@@ -68,6 +74,19 @@ class Model:
         for number, (_, _, form, word) in enumerate(self.settled, 1):
             if form != "none":
                 yield number, form, word
+
+    def files_read(self):
+        """The files of all inputs, in the order of reading."""
+        return [file for _, role, word, _ in self.inputs() for file in self.files_of(role[0], word)]
+
+    def files_written(self):
+        """The files of all outputs, in the order of the statements, each with the number of its statement."""
+        return [(number, file) for number, form, word in self.outputs() for file in self.files_of(form, word)]
+
+    def known(self):
+        """What the script and the inputs are, by the place where each really lies."""
+        inputs = {os.path.realpath(file): f"the input {file}" for file in self.files_read()}
+        return {**inputs, os.path.realpath(self.path): "the script"}
 
 
 def read_model(path):
