@@ -1,0 +1,4 @@
+mod ListLemmas
+mod TurnedLemmas
+mod HolderLemmas
+pub mod Callers
