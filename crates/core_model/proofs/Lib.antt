@@ -1,0 +1,12 @@
+pub mod Sums
+pub mod Find
+pub mod Settled
+pub mod RunLemmas
+pub mod Kept
+pub mod Counts
+pub mod Standing
+pub mod Others
+pub mod Stuck
+pub mod Bound
+pub mod Puts
+pub mod Callers

@@ -1,0 +1,9 @@
+pub mod Counts
+pub mod Graphs
+pub mod Cores
+pub mod inside
+pub mod Steps
+pub mod Runs
+pub mod TaskHistories
+pub mod Laws
+pub mod Values
