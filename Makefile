@@ -12,7 +12,7 @@ libraries := $(shell scripts/below $(name))
 named_by   = $(filter $(libraries),$(shell sed -n 's/^$(1)[^:]*: *//p' crates.txt))
 sources   := crates.txt $(shell find $(libraries:%=crates/%) crates/$(name) -name out -prune -o \( -name '*.rt' -o -name '*.antt' \) -print)
 
-.PHONY: build help demo test pages bench install $(libraries:%=proved-%)
+.PHONY: build help demo test pages bench install uninstall package is-built $(libraries:%=proved-%)
 
 build: $(PROGRAM)
 
@@ -22,7 +22,9 @@ help:
 	@echo 'make test       the gate: all proofs, wrong bodies and tests, then the checks of documents and of the program'
 	@echo 'make pages      run all that the pages show, commands of other tools too where they are there'
 	@echo 'make bench      time the program beside stock Rust, and write docs/PERFORMANCE.md'
-	@echo 'make install    install what was built below PREFIX ($(PREFIX)), with its man page'
+	@echo 'make install    install what was built below PREFIX ($(PREFIX)), with its man page, scripts and pages'
+	@echo 'make uninstall  take it away again'
+	@echo 'make package    make a Debian package of what was built, in target/'
 	@echo 'Users begin with docs/TUTORIAL.md, maintainers with CONTRIBUTING.md.'
 
 # Proves the libraries, side by side where they do not stand on each other, and then the program, and links it. What
@@ -51,7 +53,7 @@ demo: $(PROGRAM)
 	@scripts/demo $(PROGRAM) examples/soil-moisture
 
 # The gate: every proof, must-fail edit, test and program, and then the project's own checks: of its definitions, of its
-# documents and of the built program.
+# documents, of the editors' colours, of the built program and of what is installed of it.
 test:
 	rt ci
 	@$(MAKE) --no-print-directory $(PROGRAM)
@@ -60,7 +62,9 @@ test:
 	@scripts/check-claims
 	@scripts/check-where
 	@scripts/examples-in-tests --check
+	@scripts/check-colours
 	@scripts/check-program $(PROGRAM)
+	@scripts/check-release $(PROGRAM)
 
 # Runs all that the pages show, commands of other tools too, and says what was passed over. No part of the gate.
 pages: $(PROGRAM)
@@ -72,7 +76,15 @@ bench: $(PROGRAM)
 	@scripts/bench $(PROGRAM)
 
 # Installs what was built, and builds nothing, so that root proves nothing.
-install:
+install: is-built
+	@scripts/installed add '$(DESTDIR)$(PREFIX)' $(PROGRAM)
+
+uninstall:
+	@scripts/installed remove '$(DESTDIR)$(PREFIX)'
+
+# A Debian package of what was built.
+package: is-built
+	@scripts/package $(PROGRAM) target
+
+is-built:
 	@$(MAKE) --no-print-directory -q $(PROGRAM) || { echo 'the program is not there or older than its sources: run make build first' >&2; exit 1; }
-	install -D -m 755 $(PROGRAM) $(DESTDIR)$(PREFIX)/bin/$(name)
-	install -D -m 644 docs/man/$(name).1 $(DESTDIR)$(PREFIX)/share/man/man1/$(name).1

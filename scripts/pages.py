@@ -294,7 +294,7 @@ def main():
     mode, program = sys.argv[1], sys.argv[2]
     report, folder = Report(), Folder(program)
     try:
-        for page in [*PAGES, ROOT / "CONTRIBUTING.md", *sorted(ROOT.glob("crates/*/README.md"))]:
+        for page in [*PAGES, ROOT / "CONTRIBUTING.md", ROOT / "editors" / "README.md", *sorted(ROOT.glob("crates/*/README.md"))]:
             links(report, page)
         for page in PAGES:
             page_blocks(report, folder, page, mode == "tools")
