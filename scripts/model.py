@@ -35,6 +35,17 @@ def usage(text, asked):
         sys.exit(2)
 
 
+def end(main):
+    """Ends a script with the status of `main`, and without words where nobody reads on what it prints."""
+    try:
+        status = main()
+        sys.stdout.flush()
+    except BrokenPipeError:
+        os.dup2(os.open(os.devnull, os.O_WRONLY), 1)
+        status = 141
+    sys.exit(status)
+
+
 class Model:
     """A script whose text reads well. `fault` is its first fault of meaning as the program's line has it, or None."""
 
