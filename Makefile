@@ -65,6 +65,7 @@ test:
 	@scripts/check-colours
 	@scripts/check-program $(PROGRAM)
 	@scripts/check-release $(PROGRAM)
+	@scripts/compare-tilings $(PROGRAM)
 
 # Runs all that the pages show, commands of other tools too, and says what was passed over. No part of the gate.
 pages: $(PROGRAM)
