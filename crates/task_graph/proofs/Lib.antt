@@ -1,0 +1,12 @@
+pub mod ReadLemmas
+pub mod Climbs
+pub mod Orders
+pub mod Low
+pub mod Spans
+pub mod PlanLaws
+pub mod LayLemmas
+pub mod GrownLemmas
+pub mod HeldLemmas
+pub mod FlowLemmas
+pub mod CountLemmas
+pub mod TaskLemmas
