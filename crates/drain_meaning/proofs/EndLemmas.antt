@@ -31,7 +31,8 @@ tributary_drains m c u h =
     let passes = kept_passes (λ v. drains_into c (next_at m v)) (range_with_len 0 (length m.codes)) u h in
     elim (drains_tells (next_at m u) c) as (λ _. next_at m u ≡ next.Cell c) [ inl b ↦ b | inr b ↦ absurd (cc (b, passes.0)) ]
 
-outlet_is : (n : Next) (d : ℕ) → Contains (outlet n) d → n ≡ next.Cell d
+-- The outlet of a cell is what it drains into.
+pub outlet_is : (n : Next) (d : ℕ) → Contains (outlet n) d → n ≡ next.Cell d
 outlet_is (next.Cell e) d h = elim (contains_cases e [] d h) as (λ _. next.Cell e ≡ next.Cell d) [ inl same ↦ ap (λ (y : ℕ). next.Cell y) (sym same) | inr none ↦ absurd (omega (arith, none.1)) ]
 outlet_is next.Pit d h = absurd (omega (arith, h.1))
 outlet_is next.Outside d h = absurd (omega (arith, h.1))
@@ -63,6 +64,7 @@ pub record Feeds (o : Orient) (m : DrainMap) (u c : ℕ) : Type 0 where
   pub directed : IsDirected m u
   pub fewer : steps_to o m u < steps_to o m c
 
+-- What feeds a cell with a direction has one.
 pub feeder_feeds : (o : Orient) (m : DrainMap) → IsSound m → (c u : ℕ) → IsDirected m c → Contains (feeders o m c) u → Feeds o m u c
 unfolding feeders
 feeder_feeds Down m sound c u directed h =
@@ -76,6 +78,7 @@ feeder_feeds Up m sound c u directed h =
     let theirs = next_directed m c u (sound c directed) e in
     record { directed = theirs; fewer = omega (arith, longer_path m sound c u theirs e) }
 
+-- Flow comes over a step at least, and over no more steps than there are cells.
 pub steps_few : (o : Orient) (m : DrainMap) → IsSound m → (c : ℕ) → IsDirected m c → (1 ≤ steps_to o m c) × (steps_to o m c ≤ length m.codes)
 steps_few Down m sound c directed = let b = path_bounds m sound c directed in (omega (arith, b.0, b.1), omega (arith, b.0, b.1))
 steps_few Up m sound c directed = path_bounds m sound c directed
@@ -115,7 +118,7 @@ ends_unique t m a b ends sound are c directed =
 -- ---- operands that are alike
 
 -- The cells that feed a cell are in the map.
-feeder_within : (o : Orient) (m : DrainMap) → IsDrainMap m → (c u : ℕ) → Contains (feeders o m c) u → u < length m.codes
+pub feeder_within : (o : Orient) (m : DrainMap) → IsDrainMap m → (c u : ℕ) → Contains (feeders o m c) u → u < length m.codes
 unfolding feeders
 feeder_within Down m is c u h = let e = tributary_drains m c u h in directed_within m u (λ k. cc (k, e))
 feeder_within Up m is c u h = next_inside m is c u (outlet_is (next_at m c) u h)

@@ -4,6 +4,7 @@ pub mod EndLemmas
 pub mod MapLemmas
 pub mod MaskLemmas
 pub mod MissingLemmas
+pub mod NeighbourLemmas
 pub mod PathLemmas
 pub mod SumLemmas
 pub mod ThresholdLemmas

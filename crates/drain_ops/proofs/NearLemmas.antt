@@ -1,6 +1,6 @@
 -- One step up and down stream in the cells around a rectangle is the step in the whole map.
-use Rattle.std.proofs.Common.{◌≡◌, inl, inr, ℕ, ◌<◌, List, length, refl, sym, ap, subst, ◌∙◌, arith, suc, zero, Bool, true, false, get_or}
-use Rattle.std.specs.Prelude.{pos, negsuc, ◌==◌, if◌then◌else◌, IfOk, Option, Result, Ok, Err}
+use Rattle.std.proofs.Common.{◌≡◌, inl, inr, ℕ, ◌<◌, List, length, refl, sym, ap, subst, ◌∙◌, arith, Bool, true, false, get_or}
+use Rattle.std.specs.Prelude.{pos, negsuc, ◌==◌, if◌then◌else◌, IfOk, Result, Ok, Err}
 use Rattle.std.specs.List.{Contains, range_with_len}
 use Rattle.std.proofs.lemmas.List.{get_or_default}
 use Rattle.cell_values.specs.declared.cell.Cell.{Cell}
@@ -9,9 +9,9 @@ use Rattle.cell_values.specs.declared.kind.Kind.TheVariants.{Scalar}
 use Rattle.tile_map.specs.declared.part.Part.{Part}
 use Rattle.tile_map.specs.declared.rect.Rect.{Rect}
 use Rattle.tile_map.specs.Cuts.{cell_at}
-use Rattle.tile_map.specs.Parts.{Outcome, first_over, or_missing, or_over_at, part_of, tabulate}
+use Rattle.tile_map.specs.Parts.{part_of}
 use Rattle.tile_map.specs.Rects.{HoldsPlace, cell_count, number_in, place_in, places_of}
-use Rattle.tile_map.proofs.Callers.{ascends_over_places, holds_cell, number_in-place_in, number_of_held}
+use Rattle.tile_map.proofs.Callers.{ascends_over_places, holds_cell, number_in-place_in, number_of_held, part_of-same}
 use Rattle.drain_meaning.specs.declared.flow.Flow.{Flow}
 use Rattle.drain_meaning.specs.declared.next.Next.{Next}
 use Rattle.drain_meaning.specs.declared.next.Next.TheVariants as next
@@ -209,30 +209,11 @@ outcome_around o m values codes cells around inner flows a are i low =
 
 -- ---- the part
 
--- outcomes that agree at so many places have one part
-tabulate_alike : {A : Type 0} (f g : ℕ → A) (n : ℕ) → ((i : ℕ) → i < n → f i ≡ g i) → tabulate f n ≡ tabulate g n
-tabulate_alike f g zero e = refl
-tabulate_alike f g (suc n) e =
-    let rest = tabulate_alike f g n (λ i h. e i (omega arith)) in
-    let here = e n (omega arith) in
-    cc (rest, here)
-
-first_over_alike : (f g : ℕ → Outcome) (n : ℕ) → ((i : ℕ) → i < n → f i ≡ g i) → first_over f n ≡ first_over g n
-first_over_alike f g zero e = refl
-first_over_alike f g (suc n) e =
-    ap (λ (x : Outcome). or_over_at n x (first_over f n)) (e n (omega arith))
-    ∙ ap (λ (x : Option ℕ). or_over_at n (g n) x) (first_over_alike f g n (λ i h. e i (omega arith)))
-
-part_alike : (f g : ℕ → Outcome) (n : ℕ) → ((i : ℕ) → i < n → f i ≡ g i) → part_of f n ≡ part_of g n
-part_alike f g n e =
-    ap (λ (xs : List Cell). let p : Part = record { cells = xs; over = first_over f n } in p) (tabulate_alike (λ i. or_missing (f i)) (λ i. or_missing (g i)) n (λ i h. ap or_missing (e i h)))
-    ∙ ap (λ (x : Option ℕ). let p : Part = record { cells = tabulate (λ i. or_missing (g i)) n; over = x } in p) (first_over_alike f g n e)
-
 -- the part of the inner rectangle is that of the whole map
 part_around : (o : NearOp) (m : DrainMap) (values codes cells : List Cell) (around inner : Rect) (flows : List Flow) → AreSurroundings m values codes cells around inner → AreFlows o around codes cells flows →
     part_of (flow_within around codes flows inner) (cell_count inner) ≡ part_of (λ i. near_outcome o m (cell_at values) (place_in m.cols inner i)) (cell_count inner)
 part_around o m values codes cells around inner flows a are =
-    part_alike (flow_within around codes flows inner) (λ i. near_outcome o m (cell_at values) (place_in m.cols inner i)) (cell_count inner) (outcome_around o m values codes cells around inner flows a are)
+    part_of-same (flow_within around codes flows inner) (λ i. near_outcome o m (cell_at values) (place_in m.cols inner i)) (cell_count inner) (outcome_around o m values codes cells around inner flows a are)
 
 -- the part that the flows come to is that of the whole map
 pub part_result : {E : Type 0} (r : Result Part E) (o : NearOp) (codes cells : List Cell) (around inner : Rect) (flows : List Flow) → AreFlows o around codes cells flows →

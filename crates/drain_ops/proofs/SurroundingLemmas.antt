@@ -15,10 +15,9 @@ use Rattle.tile_map.specs.Rects.{HasCells, Holds, HoldsPlace, IsInMap, cell_coun
 use Rattle.tile_map.proofs.Callers.{cell_col, cell_row, get_or-cut_of, grown_holds, holds_cell, length-cut_of, number_of_held, some_cols}
 use Rattle.drain_meaning.specs.declared.next.Next.TheVariants as next
 use Rattle.drain_meaning.specs.Drains.{DrainMap, next_at}
-use Rattle.drain_meaning.proofs.Callers.{directed_within}
+use Rattle.drain_meaning.proofs.Callers.{directed_within, neighbours}
 use Rattle.drain_ops.specs.Surroundings.{AreSurroundings}
 use Rattle.drain_ops.specs.inside.Cutout.{IsCutout, LiesWithin, number_around}
-use Rattle.drain_ops.proofs.CutoutLemmas.{neighbours}
 
 -- ---- the rectangle around
 

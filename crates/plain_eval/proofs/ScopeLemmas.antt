@@ -23,7 +23,7 @@ use Rattle.tile_map.specs.declared.arg.Arg.TheVariants.{Unused, One, Cells}
 use Rattle.tile_map.specs.Args.{SpansPlaces, arg_cell}
 use Rattle.tile_map.specs.Cuts.{cell_at}
 use Rattle.tile_map.specs.Parts.{part_of, tabulate}
-use Rattle.window_ops.proofs.AroundLemmas.{part_of-same}
+use Rattle.tile_map.proofs.Callers.{part_of-same}
 use Rattle.map_meaning.specs.declared.op.Op.{Op}
 use Rattle.map_meaning.specs.declared.op.Op.TheVariants as op
 use Rattle.map_meaning.specs.declared.program.Operand.{Operand}

@@ -9,10 +9,9 @@ use Rattle.cell_values.specs.declared.kind.Kind.{Kind}
 use Rattle.cell_values.specs.declared.kind.Kind.TheVariants.{Ldd}
 use Rattle.drain_meaning.specs.declared.op.FlowOp.TheVariants as flow
 use Rattle.drain_meaning.specs.declared.op.NearOp.TheVariants as near
-use Rattle.tile_map.specs.declared.part.Part.{Part}
 use Rattle.tile_map.specs.Cuts.{cell_at}
-use Rattle.tile_map.specs.Parts.{Outcome, first_over, or_missing, or_over_at, part_of, tabulate}
-use Rattle.tile_map.proofs.Callers.{is_part-part_of}
+use Rattle.tile_map.specs.Parts.{part_of}
+use Rattle.tile_map.proofs.Callers.{is_part-part_of, part_of-same, tabulate-same}
 use Rattle.map_meaning.specs.declared.known.OverAt.{OverAt}
 use Rattle.map_meaning.specs.declared.program.Operand.{Operand}
 use Rattle.map_meaning.specs.declared.program.Operand.TheVariants.{Unused, Literal, Time, Input, Initial, Now, Last}
@@ -41,26 +40,6 @@ use Rattle.map_meaning.proofs.Callers.{same_kind}
 use Rattle.map_meaning.specs.Trees.{Environment, Site, TreeMeaning, applied_in, operations_in, values_from_left}
 use Rattle.script_types.specs.inside.Drains.{drain_named}
 use Rattle.script_types.specs.inside.Values.{HasOperands}
-
--- ---- parts
-
-tabulate-same : {A : Type 0} (f g : ℕ → A) (n : ℕ) → ((place : ℕ) → place < n → f place ≡ g place) → tabulate f n ≡ tabulate g n
-tabulate-same f g zero h = refl
-tabulate-same f g (suc n) h = ap (λ xs. xs ++ f n ∷ []) (tabulate-same f g n (λ place below. h place (omega arith))) ∙ ap (λ x. tabulate g n ++ x ∷ []) (h n (omega arith))
-
-first_over-same : (f g : ℕ → Outcome) (n : ℕ) → ((place : ℕ) → place < n → f place ≡ g place) → first_over f n ≡ first_over g n
-first_over-same f g zero h = refl
-first_over-same f g (suc n) h = ap (or_over_at n (f n)) (first_over-same f g n (λ place below. h place (omega arith))) ∙ ap (λ o. or_over_at n o (first_over g n)) (h n (omega arith))
-
--- parts of outcomes that are the same at each place are the same
-pub part_of-same : (f g : ℕ → Outcome) (n : ℕ) → ((place : ℕ) → place < n → f place ≡ g place) → part_of f n ≡ part_of g n
-part_of-same f g n h =
-    let a = tabulate-same (λ place. or_missing (f place)) (λ place. or_missing (g place)) n (λ place below. ap or_missing (h place below)) in
-    let b = first_over-same f g n h in
-    two a b
-  where
-    two : {c1 c2 : WholeMap} {o1 o2 : Option ℕ} → c1 ≡ c2 → o1 ≡ o2 → let p : Part = record { cells = c1; over = o1 } in let q : Part = record { cells = c2; over = o2 } in p ≡ q
-    two a b = cc
 
 -- ---- one operation
 

@@ -23,8 +23,10 @@ use Rattle.tile_map.proofs.TileLemmas as tiles
 pub use Rattle.tile_map.proofs.RectLemmas.{cell_col, cell_row, number_col, number_row, some_cols}
 -- a rectangle lists just its places
 pub use Rattle.tile_map.proofs.RectLemmas.{ascends_over_places}
--- a part that marks the Overs of some outcomes is theirs
-pub use Rattle.tile_map.proofs.PartLemmas.{marks_its_overs}
+-- a part that marks the Overs of some outcomes is theirs; outcomes that agree have one part; tables by place
+pub use Rattle.tile_map.proofs.PartLemmas.{first_over-same, get_or-tabulate, length-tabulate, marks_its_overs, part_of-same, tabulate-same}
+-- values over the cells of a rectangle, row by row, and by number
+pub use Rattle.tile_map.proofs.CutLemmas.{between-map_range, cut_more, front_rows, front_rows_all, front_rows_more, get_or-over, length-over, over_same, range-append}
 
 -- ---- rectangles
 

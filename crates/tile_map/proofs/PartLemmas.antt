@@ -1,5 +1,5 @@
 -- Parts of an operation.
-use Rattle.std.proofs.Common.{◌≡◌, ℕ, zero, suc, ◌<◌, List, [], ◌∷◌, length, get_or, refl, sym, ap, subst, ◌∙◌, arith, inl, inr}
+use Rattle.std.proofs.Common.{◌≡◌, ℕ, zero, suc, ◌<◌, List, [], ◌∷◌, ◌++◌, length, get_or, refl, sym, ap, subst, ◌∙◌, arith, inl, inr}
 use Rattle.std.specs.Prelude.{Option, Some, None, Ok, Err, IsOk, IsErr}
 use Rattle.std.proofs.lemmas.Bool.{cases_eq, cases_order}
 use Rattle.std.proofs.lemmas.List.{same_lists, get_or_append_left, get_or_default, get_or_push, length_push}
@@ -51,6 +51,27 @@ get_or-tabulate f (suc places) place d below = elim (cases_eq place places) as (
       get_or_append_left (tabulate f places) (f places ∷ []) d place (let e = length-tabulate f places in omega arith)
       ∙ get_or-tabulate f places place d (omega arith)
 ]
+
+-- tables of functions that agree at each place are the same
+pub tabulate-same : {A : Type 0} (f g : ℕ → A) (n : ℕ) → ((place : ℕ) → place < n → f place ≡ g place) → tabulate f n ≡ tabulate g n
+tabulate-same f g zero same = refl
+tabulate-same {A} f g (suc n) same =
+    ap (λ (xs : List A). xs ++ f n ∷ []) (tabulate-same f g n (λ place below. same place (omega arith)))
+    ∙ ap (λ (x : A). tabulate g n ++ x ∷ []) (same n (omega arith))
+
+-- outcomes that agree at each place have one first Over
+pub first_over-same : (f g : ℕ → Outcome) (n : ℕ) → ((place : ℕ) → place < n → f place ≡ g place) → first_over f n ≡ first_over g n
+first_over-same f g zero same = refl
+first_over-same f g (suc n) same =
+    ap (or_over_at n (f n)) (first_over-same f g n (λ place below. same place (omega arith)))
+    ∙ ap (λ (o : Outcome). or_over_at n o (first_over g n)) (same n (omega arith))
+
+-- outcomes that agree at each place have one part
+pub part_of-same : (f g : ℕ → Outcome) (n : ℕ) → ((place : ℕ) → place < n → f place ≡ g place) → part_of f n ≡ part_of g n
+part_of-same f g n same =
+    ap (λ (xs : List Cell). let p : Part = record { cells = xs; over = first_over f n } in p)
+    (tabulate-same (λ place. or_missing (f place)) (λ place. or_missing (g place)) n (λ place below. ap or_missing (same place below)))
+    ∙ ap (λ (o : Option ℕ). let p : Part = record { cells = tabulate (λ place. or_missing (g place)) n; over = o } in p) (first_over-same f g n same)
 
 -- the part of the outcomes is what it is said to be
 pub is_part-part_of : (outcome : ℕ → Outcome) (places : ℕ) → IsPart outcome places (part_of outcome places)

@@ -1,14 +1,11 @@
 -- A map's windows round the places of a rectangle, by the cells around it.
-use Rattle.std.proofs.Common.{◌≡◌, ℕ, zero, suc, ◌+◌, ◌-◌, ◌*◌, ◌/◌, ◌%◌, ◌<◌, ◌≤◌, List, [], ◌∷◌, ◌++◌, min, refl, sym, ap, subst, ◌∙◌, arith}
-use Rattle.std.specs.Prelude.{Option}
+use Rattle.std.proofs.Common.{◌≡◌, ℕ, ◌+◌, ◌-◌, ◌*◌, ◌/◌, ◌%◌, ◌<◌, ◌≤◌, List, min, sym, ap, subst, ◌∙◌, arith}
 use Rattle.std.proofs.lemmas.List.{same_lists}
 use Rattle.std.proofs.lemmas.Nat.{div-add-mod', div_below, mod_below}
 use Rattle.cell_values.specs.declared.cell.Cell.{Cell}
 use Rattle.cell_values.specs.declared.cell.Cell.TheVariants.{Mv}
-use Rattle.tile_map.specs.declared.part.Part.{Part}
 use Rattle.tile_map.specs.declared.rect.Rect.{Rect}
 use Rattle.tile_map.specs.Cuts.{cell_at, cut_of}
-use Rattle.tile_map.specs.Parts.{Outcome, first_over, or_missing, or_over_at, part_of, tabulate}
 use Rattle.tile_map.specs.Rects.{IsInMap, cell_count, grown, place_in}
 use Rattle.tile_map.proofs.Callers.{get_or-cut_of, length-cut_of}
 use Rattle.tile_map.proofs.RectLemmas.{place_below, some_cols}
@@ -17,25 +14,6 @@ use Rattle.region_meaning.specs.WindowResults.{window_result}
 use Rattle.region_meaning.specs.Windows.{present_values, window_outcome}
 use Rattle.window_ops.specs.Surroundings.{AreAround, IsInside}
 use Rattle.window_ops.proofs.WindowLemmas.{place-window, place_at, window_at}
-
--- outcomes that are the same place by place give the same part
-tabulate-same : {A : Type 0} (f g : ℕ → A) (n : ℕ) → ((i : ℕ) → i < n → f i ≡ g i) → tabulate f n ≡ tabulate g n
-tabulate-same f g zero same = refl
-tabulate-same {A} f g (suc n) same =
-    ap (λ (xs : List A). xs ++ f n ∷ []) (tabulate-same f g n (λ i below. same i (omega arith)))
-    ∙ ap (λ (x : A). tabulate g n ++ x ∷ []) (same n (omega arith))
-
-over-alike : (f g : ℕ → Outcome) (n : ℕ) → ((i : ℕ) → i < n → f i ≡ g i) → first_over f n ≡ first_over g n
-over-alike f g zero same = refl
-over-alike f g (suc n) same =
-    ap (or_over_at n (f n)) (over-alike f g n (λ i below. same i (omega arith)))
-    ∙ ap (λ (o : Outcome). or_over_at n o (first_over g n)) (same n (omega arith))
-
-pub part_of-same : (f g : ℕ → Outcome) (n : ℕ) → ((i : ℕ) → i < n → f i ≡ g i) → part_of f n ≡ part_of g n
-part_of-same f g n same =
-    ap (λ (xs : List Cell). let p : Part = record { cells = xs; over = first_over f n } in p)
-    (tabulate-same (λ i. or_missing (f i)) (λ i. or_missing (g i)) n (λ i below. ap or_missing (same i below)))
-    ∙ ap (λ (o : Option ℕ). let p : Part = record { cells = tabulate (λ i. or_missing (g i)) n; over = o } in p) (over-alike f g n same)
 
 -- a rectangle's cells are those of the rectangle that stands there in a cut
 cut-of-cut : (cols : ℕ) (map : List Cell) (around r s : Rect) → IsInMap around.rows around.cols r →

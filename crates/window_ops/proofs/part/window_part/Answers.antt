@@ -1,7 +1,8 @@
 use Rattle.std.proofs.Common.{ℕ, ◌∙◌}
 use Rattle.tile_map.specs.Rects.{cell_count, place_in}
 use Rattle.region_meaning.specs.Windows.{window_outcome}
-use Rattle.window_ops.proofs.AroundLemmas.{moved, moved-in, outcome-around, part_of-same}
+use Rattle.tile_map.proofs.Callers.{part_of-same}
+use Rattle.window_ops.proofs.AroundLemmas.{moved, moved-in, outcome-around}
 use Rattle.window_ops.proofs.part.window_part.Goals as goal
 
 pub local_part-requires-clause-inner : goal.local_part-requires-clause-inner
