@@ -1,5 +1,6 @@
-ghost use Rattle.std.specs.Prelude.{◌≡◌, ℕ, List, [], ◌∷◌, ◌++◌, ◌≤◌, IfOk, OnOk, None};
+ghost use Rattle.std.specs.Prelude.{◌≡◌, ℕ, ◌*◌, List, [], ◌∷◌, ◌++◌, ◌<◌, ◌≤◌, IfOk, OnOk, None};
 ghost use Rattle.std.specs.declared.option.Option.{Option};
+ghost use Rattle.text_base.specs.Limits.{most_cells};
 ghost use Rattle.map_meaning.specs.declared.program.Program.{Program as TheProgram};
 ghost use Rattle.map_meaning.specs.Limits.{most_block};
 ghost use Rattle.map_meaning.specs.Programs.{IsWellFormed};
@@ -24,8 +25,13 @@ pub trait BlockRunner {
     /// The test on the list of the runs that it was asked for.
     ghost asked: { Self → List RunOf → Type 0 };
 
-    /// The number that shows that this program is too large for the runner at this map size, or none.
+    /// The number that shows that this well-formed program is too large for the runner at this map size, which is within the
+    /// limits, or none.
     fn admit(&self, program: &Program, rows: u32, cols: u32) -> Option<u64>
+        requires program { IsWellFormed program.now }
+        requires some_rows { 0 < rows }
+        requires some_cols { 0 < cols }
+        requires few { rows * cols ≤ most_cells }
         ensures { result ≡ admits self.now program.now rows cols };
 
     /// The most steps of a span, from 1 to 64.

@@ -1,6 +1,7 @@
 //! What the runner is asked for.
 
 ghost use Rattle.std.specs.Prelude.{◌≡◌, ◌++◌, ◌∷◌, [], ℕ, List, None, IfOk, OnOk};
+ghost use Rattle.grid_text.specs.Form.{IsSize};
 ghost use Rattle.map_meaning.specs.declared.program.Program.{Program as TheProgram};
 ghost use Rattle.map_meaning.specs.Programs.{IsWellFormed};
 ghost use Rattle.map_meaning.specs.Spans.{IsSpan, Knows, RunOf, stage_of};
@@ -21,6 +22,8 @@ pub fn admitted<R: BlockRunner>(
     rows: u32,
     cols: u32,
 ) -> Result<(), Stop>
+    requires program { IsWellFormed program.now }
+    requires size { IsSize rows cols }
     ensures settles { GivesEnd (or_too_many (R.admits runner.now program.now rows cols)) result }
     ensures none { IfOk result (λ _. R.admits runner.now program.now rows cols ≡ None) }
 {

@@ -1,6 +1,7 @@
 //! A program, operation by operation.
 
-ghost use Rattle.std.specs.Prelude.{◌≡◌, ◌++◌, ◌∷◌, [], IfOk, IsTrue, OnOk};
+ghost use Rattle.std.specs.Prelude.{◌≡◌, ◌*◌, ◌<◌, ◌≤◌, ◌++◌, ◌∷◌, [], IfOk, IsTrue, OnOk};
+ghost use Rattle.text_base.specs.Limits.{most_cells};
 ghost use Rattle.cell_values.specs.declared.kind.Kind.TheVariants.{Scalar};
 ghost use Rattle.map_meaning.specs.declared.program.Operand.TheVariants.{Initial as TheInitial};
 ghost use Rattle.map_meaning.specs.declared.program.OutputKind.TheVariants.{InitialGrid};
@@ -441,11 +442,20 @@ fn tells_the_first_over(rt: HostRuntime) -> Result<(), Fail> {
     Ok(())
 }
 
+// The number that shows that the program is too large, or none.
+fn admitted(program: &Program, rows: u32, cols: u32) -> Option<u64>
+    requires program { IsWellFormed program.now }
+    requires some_rows { 0 < rows }
+    requires some_cols { 0 < cols }
+    requires few { rows * cols ≤ most_cells }
+{
+    PlainRunner::new(BaseKit).admit(program, rows, cols)
+}
+
 #[test]
 fn takes_each_program(rt: HostRuntime) -> Result<(), Fail> {
     let program = chain(rt.alloc())?;
-    let runner = PlainRunner::new(BaseKit);
-    assert_eq!(rt; runner.admit(&program, 2048, 2048), None);
-    assert_eq!(rt; runner.block(), 1);
+    assert_eq!(rt; admitted(&program, 2048, 2048), None);
+    assert_eq!(rt; PlainRunner::new(BaseKit).block(), 1);
     Ok(())
 }

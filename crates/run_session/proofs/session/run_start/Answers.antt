@@ -4,6 +4,7 @@ use Rattle.outside_io.specs.Runs.{settled}
 use Rattle.outside_io.specs.Causes.{CameTo, why_by}
 use Rattle.outside_io.specs.Met.{Meets}
 use Rattle.outside_io.proofs.Callers.{meets_on, meets_out, meets_settled, meets_stop}
+use Rattle.map_meaning.specs.Programs.{IsWellFormed}
 use Rattle.run_session.specs.declared.ends.Tally.{Tally}
 use Rattle.run_session.specs.Course.{or_too_many, start_run}
 use Rattle.run_session.specs.Ends.{why}
@@ -64,3 +65,6 @@ returns-clause-run g c =
 
 pub run_plan-requires-clause-admitted : goal.run_plan-requires-clause-admitted
 run_plan-requires-clause-admitted g c = rw c.deref.ensures at c.in_ok-admitted.ensures.none
+
+pub admitted-requires-clause-program : goal.admitted-requires-clause-program
+admitted-requires-clause-program g c = subst IsWellFormed (sym c.deref.ensures) c.requires.work.formed
