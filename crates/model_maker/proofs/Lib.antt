@@ -1,0 +1,3 @@
+pub mod DrawLemmas
+pub mod DrainLemmas
+pub mod FileLemmas

@@ -1,0 +1,2 @@
+-- Words of the contracts of calls that are parts of others.
+pub mod States
