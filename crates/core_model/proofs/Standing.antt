@@ -7,7 +7,7 @@ use Rattle.core_model.specs.declared.step.Step.{Step}
 use Rattle.core_model.specs.declared.step.Step.TheVariants.{Claim, Publish, Send, Take, Park, PutDown}
 use Rattle.core_model.specs.Cores.{Status, ready, held, parked, published, Core, upd, opening}
 use Rattle.core_model.specs.Steps.{Allows, effect}
-use Rattle.core_model.specs.Runs.{after_from, LegalFrom, after, Legal}
+use Rattle.core_model.specs.Runs.{BegunHaveNeeds, after_from, LegalFrom, after, Legal}
 use Rattle.core_model.specs.Laws.{HoldsOne, HeldStays}
 use Rattle.core_model.specs.Values.{Meaning, RunValues, value_step, values_from, IsRight, StandsRight, Right}
 use Rattle.core_model.proofs.Find.{upd_same, upd_other, upd_cases, each_in, each_from}
@@ -17,20 +17,16 @@ use Rattle.core_model.proofs.Kept.{Kept, opening_kept, step_kept, no_true}
 pub same_holder : {v w : ℕ} → held v ≡ held w → v ≡ w
 same_holder q = cc
 
--- what a begun task reads is published
-pub record Begun (g : Graph) (s : Core) : Type 0 where
-  pub needs : (t : ℕ) → t < g.tasks → s.status t ≢ ready → (n : ℕ) → In n (g.needs t) → s.status n ≡ published
-
 module _ (g : Graph) (sound : IsSoundGraph g) where
   -- a status is changed, and none that was published
-  begun_upd : (s : Core) (t : ℕ) (st : Status) → Begun g s → s.status t ≢ published → (t < g.tasks → st ≢ ready → (n : ℕ) → In n (g.needs t) → s.status n ≡ published) → (u : ℕ) → u < g.tasks → upd s.status t st u ≢ ready → (n : ℕ) → In n (g.needs u) → upd s.status t st n ≡ published
+  begun_upd : (s : Core) (t : ℕ) (st : Status) → BegunHaveNeeds g s → s.status t ≢ published → (t < g.tasks → st ≢ ready → (n : ℕ) → In n (g.needs t) → s.status n ≡ published) → (u : ℕ) → u < g.tasks → upd s.status t st u ≢ ready → (n : ℕ) → In n (g.needs u) → upd s.status t st n ≡ published
   begun_upd s t st b open' mine u lt begun n i =
       let old : s.status n ≡ published = dite (ℕ_discrete u t)
       (λ e. mine (subst (λ z. z < g.tasks) e lt) (λ q. begun (ap (upd s.status t st) e ∙ upd_same s.status t st ∙ q)) n (subst (λ z. In n (g.needs z)) e i))
       (λ ne. b.needs u lt (λ q. begun (upd_other s.status t u st ne ∙ q)) n i) in
       upd_cases (λ (z : Status). z ≡ published) s.status t n st (λ e. absurd (open' (ap s.status (sym e) ∙ old))) (λ _. old)
 
-  pub begun_step : (s : Core) (x : Step) → Begun g s → Allows g s x → Begun g (effect g s x)
+  pub begun_step : (s : Core) (x : Step) → BegunHaveNeeds g s → Allows g s x → BegunHaveNeeds g (effect g s x)
   begun_step s (Claim w t) b en = record {
     needs = begun_upd s t (held w) b
         (λ p. ⊎_elim (λ r. absurd (let q : ready ≡ published = sym r.0 ∙ p in cc)) (λ r. absurd (let q : parked ≡ published = sym r.0 ∙ p in cc)) en.2)
@@ -44,7 +40,7 @@ module _ (g : Graph) (sound : IsSoundGraph g) where
 
   module _ {V F : Type 0} (n : ℕ) (m : Meaning V F) (whole_tile : ℕ → V) (whole_flow : ℕ → F) (right : IsRight g m whole_tile whole_flow) where
     -- the tiles that a held task reads stand for the whole
-    reads : (s : Core) (v : RunValues V F) (w t : ℕ) → StandsRight g whole_tile whole_flow s v → Begun g s → t < g.tasks → s.status t ≡ held w → Each (λ n. v.tile n ≡ whole_tile n) (g.needs t)
+    reads : (s : Core) (v : RunValues V F) (w t : ℕ) → StandsRight g whole_tile whole_flow s v → BegunHaveNeeds g s → t < g.tasks → s.status t ≡ held w → Each (λ n. v.tile n ≡ whole_tile n) (g.needs t)
     reads s v w t st b lt h = each_from (λ n. v.tile n ≡ whole_tile n) (g.needs t)
         (λ n i. st.tiles n (let q = (each_in (NeedsWell g t) (g.needs t) n (sound.needed t lt) i).0 in omega arith) (b.needs t lt (λ q. absurd (let z : held w ≡ ready = sym h ∙ q in cc)) n i))
 
@@ -55,7 +51,7 @@ module _ (g : Graph) (sound : IsSoundGraph g) where
     not_published : (s : Core) (v : RunValues V F) (t : ℕ) (new : Status) (pd : ℕ → Bool) → StandsRight g whole_tile whole_flow s v → new ≢ published → StandsRight g whole_tile whole_flow record { status = upd s.status t new; sent = s.sent; taken = s.taken; waiting = s.waiting; has_put_down = pd } v
     not_published s v t new pd st ne = record { tiles = λ u lt. upd_cases (λ (z : Status). z ≡ published → v.tile u ≡ whole_tile u) s.status t u new (λ _ p. absurd (ne p)) (λ _ p. st.tiles u lt p); messages = st.messages }
 
-    stands_step : (s : Core) (v : RunValues V F) (x : Step) → Kept g n s → Begun g s → StandsRight g whole_tile whole_flow s v → Allows g s x → StandsRight g whole_tile whole_flow (effect g s x) (value_step g m v x)
+    stands_step : (s : Core) (v : RunValues V F) (x : Step) → Kept g n s → BegunHaveNeeds g s → StandsRight g whole_tile whole_flow s v → Allows g s x → StandsRight g whole_tile whole_flow (effect g s x) (value_step g m v x)
     stands_step s v (Claim w t) k b st en = not_published s v t (held w) s.has_put_down st (λ e. absurd (cc))
     stands_step s v (Publish w t) k b st en =
         let r = reads s v w t st b en.0 en.1 in
@@ -79,7 +75,7 @@ module _ (g : Graph) (sound : IsSoundGraph g) where
     stands_step s v (Park w t) k b st en = not_published s v t parked s.has_put_down st (λ e. absurd (cc))
     stands_step s v (PutDown w t) k b st en = not_published s v t ready (upd s.has_put_down w true) st (λ e. absurd (cc))
 
-    stands_run : (s : Core) (v : RunValues V F) (xs : List Step) → Kept g n s → Begun g s → StandsRight g whole_tile whole_flow s v → LegalFrom g n s xs → StandsRight g whole_tile whole_flow (after_from g s xs) (values_from g m v xs)
+    stands_run : (s : Core) (v : RunValues V F) (xs : List Step) → Kept g n s → BegunHaveNeeds g s → StandsRight g whole_tile whole_flow s v → LegalFrom g n s xs → StandsRight g whole_tile whole_flow (after_from g s xs) (values_from g m v xs)
     stands_run s v [] k b st l = st
     stands_run s v (x ∷ xs) k b st l = stands_run (effect g s x) (value_step g m v x) xs (step_kept g n sound s x k l.0) (begun_step s x b l.0.1) (stands_step s v x k b st l.0.1) l.1
 
@@ -100,10 +96,10 @@ held_stays g n s (Park v u) w t en ne lt h = record { still = upd_cases (λ (z :
 held_stays g n s (PutDown v u) w t en ne lt h = record { still = upd_cases (λ (z : Status). z ≡ held w) s.status u t ready (λ q. absurd (ne (same_holder (sym en.1.1 ∙ ap s.status (sym q) ∙ h)))) (λ _. h); taken = λ e _ _. refl; sent = λ e _ _. refl; has_put_down = upd_other s.has_put_down v w true (λ q. ne (sym q)) }
 
 -- what a task reads was published when it was begun
-pub run_begun : (g : Graph) (n : ℕ) (sound : IsSoundGraph g) (xs : List Step) → Legal g n xs → Begun g (after g xs)
+pub run_begun : (g : Graph) (n : ℕ) (sound : IsSoundGraph g) (xs : List Step) → Legal g n xs → BegunHaveNeeds g (after g xs)
 run_begun g n sound xs l = begun_from opening xs record { needs = λ t lt no'. absurd (no' refl) } l
   where
-    begun_from : (s : Core) (xs : List Step) → Begun g s → LegalFrom g n s xs → Begun g (after_from g s xs)
+    begun_from : (s : Core) (xs : List Step) → BegunHaveNeeds g s → LegalFrom g n s xs → BegunHaveNeeds g (after_from g s xs)
     begun_from s [] b l = b
     begun_from s (x ∷ xs) b l = begun_from (effect g s x) xs (begun_step g sound s x b l.0.1) l.1
 
