@@ -28,7 +28,7 @@ without rule x f u = if u == x then rule.none else f u
 without_same : {A : Type 0} (rule : Accumulator A) (x : ℕ) (f : ℕ → A) → without rule x f x ≡ rule.none
 without_same rule x f = rw (eq-eqb x x refl)
 
-without_other : {A : Type 0} (rule : Accumulator A) (x : ℕ) (f : ℕ → A) (u : ℕ) → u ≢ x → without rule x f u ≡ f u
+pub without_other : {A : Type 0} (rule : Accumulator A) (x : ℕ) (f : ℕ → A) (u : ℕ) → u ≢ x → without rule x f u ≡ f u
 without_other rule x f u ne = elim (eqb_tells u x) as (λ _. without rule x f u ≡ f u) [ inl t ↦ absurd (ne t.1) | inr t ↦ rw t.0 ]
 
 -- values that agree on a list are joined to the same
@@ -47,7 +47,7 @@ gathered_none t rule laws f (x ∷ xs) e =
     cc (laws.unit rule.none)
 
 -- one place taken out
-gathered_split : {A : Type 0} (t : Transport) (rule : Accumulator A) → RuleLaws t rule → (x : ℕ) (f : ℕ → A) (xs : List ℕ) → IsApart xs → Contains xs x → gathered rule f xs ≡ rule.joined (gathered rule (without rule x f) xs) (f x)
+pub gathered_split : {A : Type 0} (t : Transport) (rule : Accumulator A) → RuleLaws t rule → (x : ℕ) (f : ℕ → A) (xs : List ℕ) → IsApart xs → Contains xs x → gathered rule f xs ≡ rule.joined (gathered rule (without rule x f) xs) (f x)
 gathered_split t rule laws x f [] apart on = absurd (omega (arith, on.1))
 gathered_split t rule laws x f (y ∷ ys) apart on = elim (cases_eq y x) as (λ _. gathered rule f (y ∷ ys) ≡ rule.joined (gathered rule (without rule x f) (y ∷ ys)) (f x)) [
   | inl same ↦

@@ -1,14 +1,17 @@
 -- The least place whose result is out of range, and the part that a walk leaves.
 use Rattle.std.proofs.Common.{◌≡◌, ◌⊎◌, inl, inr, ℕ, ◌<◌, ◌≤◌, List, length, refl, sym, ap, subst, ◌∙◌, arith, Bool, true, false}
 use Rattle.std.specs.Prelude.{if◌then◌else◌, Option, Some, None, Ok, Err}
+use Rattle.text_base.specs.Limits.{most_cells}
 use Rattle.cell_values.specs.declared.cell.Cell.{Cell}
 use Rattle.cell_values.specs.declared.cell.Cell.TheVariants as cell
 use Rattle.tile_map.specs.Cuts.{cell_at}
+use Rattle.drain_meaning.specs.declared.end.FlowEnd.{FlowEnd}
 use Rattle.drain_meaning.specs.declared.flow.Flow.{Flow}
 use Rattle.drain_meaning.specs.declared.next.Next.{Next}
 use Rattle.drain_meaning.specs.declared.next.Next.TheVariants as next
 use Rattle.drain_meaning.specs.Drains.{DrainMap, next_at}
 use Rattle.drain_meaning.specs.Paths.{IsDirected}
+use Rattle.drain_meaning.specs.Sound.{IsDrain}
 use Rattle.drain_meaning.specs.Transports.{Transport}
 use Rattle.drain_meaning.proofs.Callers.{directed_within}
 use Rattle.std.specs.Prelude.{nat_lt, IsOk, IsErr}
@@ -87,3 +90,15 @@ part_of_walk t kind m a b Done results over many only all given other least = re
   ];
   over = told_first (transport_outcome t kind m a b) m Done over (λ u k. directed_within m u (only u k)) all (λ u e. subst (λ (y : Outcome). IsOk y) (sym (outcome_missing t kind m a b u e)) refl) least;
 }
+
+-- the cell that a transport gives at a place
+abbrev pub cell_of : Transport → Kind → DrainMap → (ℕ → Cell) → (ℕ → Cell) → ℕ → Cell
+cell_of t kind m a b u = or_missing (transport_outcome t kind m a b u)
+
+-- a drain map has no more cells than any map
+pub few_cells : (m : DrainMap) → IsDrain m → length m.codes ≤ most_cells
+few_cells m is = omega (arith, is.map.few, is.map.size)
+
+-- what is judged of a result at a cell with a direction
+pub judged_here : (t : Transport) (kind : Kind) (m : DrainMap) (a b : ℕ → Cell) (c : ℕ) (e : FlowEnd) → IsDirected m c → e ≡ end_of t m a b c → flow_outcome kind e.result ≡ transport_outcome t kind m a b c
+judged_here t kind m a b c e d is = ap (λ (y : FlowEnd). flow_outcome kind y.result) is ∙ sym (outcome_directed t kind m a b c d)

@@ -1,12 +1,14 @@
+pub mod Chains
 pub mod CutoutLemmas
 pub mod FedLemmas
+pub mod Feeding
+pub mod FirstWaits
 pub mod Gathered
 pub mod Judging
 pub mod Loads
 pub mod NearLemmas
-pub mod OrderLemmas
 pub mod Passing
+pub mod PathSteps
 pub mod Rising
 pub mod SurroundingLemmas
-pub mod Turns
-pub mod Walks
+pub mod TrailLemmas

@@ -1,8 +1,12 @@
 -- How many cells have passed their flow on to a cell, directly or not.
-use Rattle.std.proofs.Common.{◌≡◌, inl, inr, ℕ, ◌+◌, ◌≤◌, List, [], ◌∷◌, length, refl, sym, subst, arith, true, false}
+use Rattle.std.proofs.Common.{◌≡◌, inl, inr, ℕ, ◌+◌, ◌<◌, ◌≤◌, List, [], ◌∷◌, length, refl, sym, subst, arith, true, false}
 use Rattle.std.specs.Prelude.{if◌then◌else◌}
-use Rattle.std.specs.List.{Contains}
-use Rattle.std.proofs.lemmas.Bool.{eq-eqb}
+use Rattle.std.specs.List.{AllByRecursion, Contains, IsDistinct}
+use Rattle.std.proofs.Math.Dec.{eqb}
+use Rattle.std.proofs.lemmas.Bool.{eq-eqb, eqb-true}
+use Rattle.std.proofs.lemmas.Bool.Decides.{eqb_tells}
+use Rattle.std.proofs.lemmas.Map.Steps.{length-le_from_distinct_below}
+use Rattle.std.proofs.lemmas.Map.Views.{Contains-from_any}
 use Rattle.drain_meaning.specs.declared.next.Next.{Next}
 use Rattle.drain_meaning.specs.declared.next.Next.TheVariants as next
 use Rattle.drain_meaning.specs.Drains.{DrainMap, next_at}
@@ -61,3 +65,19 @@ few_loads drains (c ∷ done) us one two out =
     let rest = few_loads drains done (c ∷ us) one.1 ((λ h. out c h (contains_first c done)), two)
     (λ v h k. elim (contains_cases c us v h) as (λ _. ⊥) [ inl b ↦ one.0 (subst (λ (y : ℕ). Contains done y) b k) | inr b ↦ out v b (contains_later c done v k) ]) in
     omega (arith, step, rest)
+
+none_equal : (x : ℕ) (ys : List ℕ) → (Contains ys x → ⊥) → AllByRecursion (λ y. eqb x y ≡ false) ys
+none_equal x [] e = tt
+none_equal x (y ∷ ys) e = (
+  elim (eqb_tells x y) as (λ _. eqb x y ≡ false) [ inl b ↦ absurd (e (subst (λ (z : ℕ). Contains (y ∷ ys) z) (sym b.1) (contains_first y ys))) | inr b ↦ b.0 ],
+  none_equal x ys (λ h. e (contains_later y ys x h)),
+)
+
+distinct_of_apart : (xs : List ℕ) → IsApart xs → IsDistinct eqb xs
+unfolding IsDistinct
+distinct_of_apart [] e = tt
+distinct_of_apart (x ∷ xs) e = (none_equal x xs e.0, distinct_of_apart xs e.1)
+
+-- There are no more places that stand once and are below a number than that number.
+pub few_places : (xs : List ℕ) (n : ℕ) → IsApart xs → ((u : ℕ) → Contains xs u → u < n) → length xs ≤ n
+few_places xs n apart low = length-le_from_distinct_below xs n (distinct_of_apart xs apart) (λ q h. low q (Contains-from_any eqb-true q xs h))

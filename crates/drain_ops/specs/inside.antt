@@ -1,3 +1,5 @@
 pub mod Cutout
 pub mod Judged
+pub mod Trails
 pub mod Upward
+pub mod Waits

@@ -1,13 +1,12 @@
-//! One walk against drain order: each cell after all cells that drain into it.
+//! One walk down stream: each cell after all cells that drain into it.
 
-ghost use Rattle.std.specs.Prelude.{◌≡◌, ◌<◌, IfOk, ℕ, length, slice_index_or, slice_set};
+ghost use Rattle.std.specs.Prelude.{◌≡◌, ◌<◌, ◌-◌, IfOk, ℕ, [], length, slice_index, slice_index_or, slice_set};
 ghost use Rattle.cell_values.specs.declared.cell.Cell.TheVariants.{Mv};
-ghost use Rattle.drain_meaning.specs.Orders.{IsDrainOrder};
 ghost use Rattle.drain_meaning.specs.Rules.{FitTogether, FitsBefore};
-ghost use Rattle.drain_meaning.specs.Sound.{IsDrain};
 ghost use Rattle.drain_meaning.specs.Transports.{transport_outcome};
 ghost use Rattle.drain_meaning.specs.declared.op.Orient.TheVariants.{Down};
 ghost use Rattle.drain_ops.specs.Operands.{AreInRange, flow_operand};
+ghost use Rattle.drain_ops.specs.inside.Waits.{AreWaits};
 ghost use Rattle.tile_map.specs.Args.{HasPlace, SpansPlaces};
 ghost use Rattle.tile_map.specs.Cuts.{cell_at};
 ghost use Rattle.tile_map.specs.Parts.{part_of};
@@ -19,6 +18,9 @@ use cell_values::{Cell, Cells, Kind};
 use drain_meaning::{Drain, Flow, FlowEnd, FlowRule, Next};
 use std::alloc::{AllocError, Global};
 use tile_map::{Arg, Part};
+
+/// What a cell waits for that has had its turn, or never has one.
+const DONE: u32 = u32::MAX;
 
 // The end of a cell, by what came to it and its operands.
 fn end_at<R: FlowRule>(rule: &R, inflows: &[R::Acc], at: u32, a: Arg<'_>, b: Arg<'_>) -> FlowEnd
@@ -41,24 +43,33 @@ pub(crate) fn receive<R: FlowRule>(rule: &R, inflows: &mut [R::Acc], down: usize
     inflows[down] = rule.add(inflows[down], rule.lift(out));
 }
 
-// Passes the flow of each cell on, from the end of the order to its beginning. Tells the first place that is out of range.
+// A cell waits for one cell less.
+fn one_less(waits: &mut [u32], down: usize)
+    requires within { down < length waits.old }
+    requires some { 0 < slice_index waits.old down }
+    ensures { waits.new ≡ slice_set waits.old down (slice_index waits.old down - 1) }
+{
+    waits[down] -= 1;
+}
+
+// Passes the flow of each cell on, once all cells that drain into it have done so: down from each place as long as the next
+// cell waits for no other one. Tells the first place that is out of range.
 fn pass_down<R: FlowRule>(
     rule: &R,
     kind: Kind,
     drain: &Drain,
-    order: &[u32],
     a: Arg<'_>,
     b: Arg<'_>,
+    waits: &mut [u32],
     inflows: &mut [R::Acc],
     results: &mut [Cell],
 ) -> Option<u32>
     requires down { (R.transport rule.now).orient ≡ Down }
-    requires drain { IsDrain drain.now }
-    requires ordered { IsDrainOrder drain.now order.now }
     requires a { SpansPlaces a (length drain.now.codes) }
     requires b { SpansPlaces b (length drain.now.codes) }
     requires a_range { AreInRange (flow_operand a) }
     requires b_range { AreInRange (flow_operand b) }
+    requires waiting { AreWaits drain.now [] waits.old }
     requires inflows_many { length inflows.old ≡ length drain.now.codes }
     requires results_many { length results.old ≡ length drain.now.codes }
     requires nothing { (d : ℕ) → slice_index_or inflows.old d (R.rule rule.now).none ≡ (R.rule rule.now).none }
@@ -66,19 +77,47 @@ fn pass_down<R: FlowRule>(
     ensures { record { cells = results.new; over = result } ≡ part_of (transport_outcome (R.transport rule.now) kind drain.now (flow_operand a.entry) (flow_operand b.entry)) (length drain.now.codes) }
 {
     let mut over = None;
-    let mut left = order.len();
-    while left > 0 {
-        left -= 1;
-        let at = order[left];
-        let end = end_at(rule, inflows, at, a, b);
-        let (cell, first) = judged(kind, end.result, at, over);
-        results[at as usize] = cell;
-        over = first;
-        if let Next::Cell(down) = drain.next(at) {
-            receive(rule, inflows, down as usize, end.out);
+    for place in 0..cell_number(drain) {
+        let mut at = place;
+        while waits[at as usize] == 0 {
+            let end = end_at(rule, inflows, at, a, b);
+            let (cell, first) = judged(kind, end.result, at, over);
+            waits[at as usize] = DONE;
+            results[at as usize] = cell;
+            over = first;
+            if let Next::Cell(down) = drain.next(at) {
+                receive(rule, inflows, down as usize, end.out);
+                one_less(waits, down as usize);
+                at = down;
+            }
         }
     }
     over
+}
+
+// Counts at each cell those that drain into it.
+fn count_waits(drain: &Drain, waits: &mut [u32])
+    requires many { length waits.old ≡ length drain.now.codes }
+    requires none { (d : ℕ) → slice_index waits.old d ≡ 0 }
+    ensures many { length waits.new ≡ length waits.old }
+    ensures waits { AreWaits drain.now [] waits.new }
+{
+    for place in 0..cell_number(drain) {
+        match drain.next(place) {
+            Next::Cell(down) => waits[down as usize] += 1,
+            Next::Pit | Next::Outside => {}
+            Next::Missing => waits[place as usize] = DONE,
+        }
+    }
+}
+
+// How many cells each cell waits for before the walk begins.
+fn first_waits(alloc: Global, drain: &Drain) -> Result<Vec<u32>, AllocError>
+    ensures { IfOk result (λ waits. AreWaits drain.now [] waits.items) }
+{
+    let mut waits = vec![in alloc; 0; cell_number(drain) as usize]?;
+    count_waits(drain, &mut waits);
+    Ok(waits)
 }
 
 // Nothing has come to any of so many cells yet.
@@ -103,12 +142,10 @@ pub(crate) fn flow_down<R: FlowRule>(
     rule: &R,
     kind: Kind,
     drain: &Drain,
-    order: &[u32],
     a: Arg<'_>,
     b: Arg<'_>,
 ) -> Result<Part, AllocError>
     requires down { (R.transport rule.now).orient ≡ Down }
-    requires ordered { IsDrainOrder drain.now order.now }
     requires a { SpansPlaces a (length drain.now.codes) }
     requires b { SpansPlaces b (length drain.now.codes) }
     requires a_range { AreInRange (flow_operand a) }
@@ -116,9 +153,19 @@ pub(crate) fn flow_down<R: FlowRule>(
     ensures { IfOk result (λ part. part ≡ part_of (transport_outcome (R.transport rule.now) kind drain.now (flow_operand a.entry) (flow_operand b.entry)) (length drain.now.codes)) }
 {
     let count = cell_number(drain) as usize;
+    let mut waits = first_waits(alloc, drain)?;
     let mut inflows = no_inflows(alloc, rule, count)?;
     let mut results = vec![in alloc; Cell::Mv; count]?;
-    let over = pass_down(rule, kind, drain, order, a, b, &mut inflows, &mut results);
+    let over = pass_down(
+        rule,
+        kind,
+        drain,
+        a,
+        b,
+        &mut waits,
+        &mut inflows,
+        &mut results,
+    );
     Ok(Part {
         cells: Cells::from_vec(results),
         over,

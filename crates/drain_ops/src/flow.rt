@@ -7,12 +7,11 @@ ghost use Rattle.tile_map.specs.Parts.{part_of};
 use crate::down::flow_down;
 use crate::up::flow_up;
 use cell_values::Kind;
-use drain_check::drain_order;
 use drain_meaning::{Drain, FlowRule, Orient};
 use std::alloc::{AllocError, Global};
 use tile_map::{Arg, Part};
 
-/// A transport over a whole map, by its rule: the cells of a kind that hold its results, by one walk in drain order. An
+/// A transport over a whole map, by its rule: the cells of a kind that hold its results, by one walk. An
 /// operand that the operation does not have counts as 0.
 pub fn flow_whole<R: FlowRule>(
     alloc: Global,
@@ -28,9 +27,8 @@ pub fn flow_whole<R: FlowRule>(
     requires b_range { AreInRange (flow_operand b) }
     ensures { IfOk result (λ part. part ≡ part_of (transport_outcome (R.transport rule.now) kind drain.now (flow_operand a.entry) (flow_operand b.entry)) (length drain.now.codes)) }
 {
-    let order = drain_order(alloc, drain)?;
     match rule.orient() {
-        Orient::Down => flow_down(alloc, rule, kind, drain, &order, a, b),
-        Orient::Up => flow_up(alloc, rule, kind, drain, &order, a, b),
+        Orient::Down => flow_down(alloc, rule, kind, drain, a, b),
+        Orient::Up => flow_up(alloc, rule, kind, drain, a, b),
     }
 }
