@@ -3,4 +3,5 @@ mod LeaderLemmas
 mod MapLemmas
 mod OrderLemmas
 mod PlaceLemmas
+mod RunLemmas
 mod TallyLemmas

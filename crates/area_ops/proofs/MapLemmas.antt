@@ -62,11 +62,11 @@ not_seen class k less = false_from_ne_true (int_eq k class) (λ e.
     absurd cc)
 
 -- what a class sees of another one
-seen_not : (class own : ℤ) (t : Tally) → int_eq own class ≡ false → seen_from class own t ≡ no_tally
+pub seen_not : (class own : ℤ) (t : Tally) → int_eq own class ≡ false → seen_from class own t ≡ no_tally
 unfolding seen_from
 seen_not class own t e = ap (λ (b : Bool). if b then t else no_tally) e
 
-seen_itself : (class own : ℤ) (t : Tally) → int_eq own class ≡ true → seen_from class own t ≡ t
+pub seen_itself : (class own : ℤ) (t : Tally) → int_eq own class ≡ true → seen_from class own t ≡ t
 unfolding seen_from
 seen_itself class own t e = ap (λ (b : Bool). if b then t else no_tally) e
 

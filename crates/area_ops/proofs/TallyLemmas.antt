@@ -74,6 +74,27 @@ min_assoc x y z = omega (arith, ints, clamps)
 max_assoc : (x y z : ℤ) → int_max (int_max x y) z ≡ int_max x (int_max y z)
 max_assoc x y z = omega (arith, ints, clamps)
 
+-- it does not matter which of three are joined first
+pub tally_regroup : (a b c : Tally) → tally_join (tally_join a b) c ≡ tally_join a (tally_join b c)
+tally_regroup a b c = elim (cases_eq c.count 0) as (λ x. tally_join (tally_join a b) c ≡ tally_join a (tally_join b c)) [
+  | inl none ↦ join_none (tally_join a b) c none ∙ ap (tally_join a) (sym (join_none b c none))
+  | inr third ↦ elim (cases_eq b.count 0) as (λ x. tally_join (tally_join a b) c ≡ tally_join a (tally_join b c)) [
+    | inl none ↦ ap (λ (t : Tally). tally_join t c) (join_none a b none) ∙ ap (tally_join a) (sym (none_join b c none third))
+    | inr second ↦
+        let both : (tally_join b c).count ≡ 0 → ⊥ = λ e. let n = count-tally_join b c in omega (arith, e, n, second) in
+        elim (cases_eq a.count 0) as (λ x. tally_join (tally_join a b) c ≡ tally_join a (tally_join b c)) [
+          | inl none ↦ ap (λ (t : Tally). tally_join t c) (none_join a b none second) ∙ sym (none_join a (tally_join b c) none both)
+          | inr first ↦
+              let front : (tally_join a b).count ≡ 0 → ⊥ = λ e. let n = count-tally_join a b in omega (arith, e, n, second) in
+              join_some (tally_join a b) c front third
+              ∙ (ap (λ (t : Tally). tally_sum t c) (join_some a b first second)
+              ∙ (same_tally (tally_sum (tally_sum a b) c) (tally_sum a (tally_sum b c)) (omega arith) (omega (arith, ints)) (min_assoc a.least b.least c.least) (max_assoc a.greatest b.greatest c.greatest)
+              ∙ (ap (tally_sum a) (sym (join_some b c second third))
+              ∙ sym (join_some a (tally_join b c) first both))))
+        ]
+  ]
+]
+
 -- of two lists
 total_of-append : (xs ys : List ℤ) → total_of (xs ++ ys) ≡ total_of xs +ℤ total_of ys
 total_of-append [] ys = omega (arith, ints)

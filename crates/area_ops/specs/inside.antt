@@ -1,3 +1,4 @@
 pub mod Counts
 pub mod Leaders
+pub mod Runs
 pub mod Tallies

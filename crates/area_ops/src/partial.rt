@@ -9,7 +9,8 @@ ghost use Rattle.area_ops.specs.Partials.{StandsFor};
 ghost use Rattle.region_meaning.specs.AreaResults.{area_outcome, area_result};
 ghost use Rattle.area_ops.specs.inside.Counts.{counts_numbers};
 ghost use Rattle.area_ops.specs.inside.Leaders.{class_result};
-ghost use Rattle.area_ops.specs.inside.Tallies.{AreTallies, IsTally, place_tally, seen_from, tally_at, tally_join, number_tally};
+ghost use Rattle.area_ops.specs.inside.Runs.{tally_with};
+ghost use Rattle.area_ops.specs.inside.Tallies.{AreTallies, IsTally, place_tally, seen_from, tally_at, tally_join, tally_of_one, number_tally};
 
 use crate::counts::{Counts, counts, counts_of_both};
 use crate::results::{Results, counted, outcomes, tallied};
@@ -45,6 +46,13 @@ impl Model for Partial {
     ghost invariant = { λ p. (p.cells ≤ most_cells) × AreTallies p.cells (tally_at p.areas) × AreCounts p.cells p.counts.entries };
 }
 
+/// The tally of places of one class, one after another, that no map has yet.
+#[derive(Clone, Copy)]
+struct Run {
+    class: i64,
+    tally: Tally,
+}
+
 // Whether the operation asks how often each number stands in a class.
 fn counts_numbers(op: AreaOp) -> bool
     ensures { result ≡ counts_numbers op }
@@ -77,20 +85,61 @@ fn add(areas: &mut BTreeMap<i64, Tally>, class: i64, more: Tally) -> Result<(), 
     Ok(())
 }
 
+// Adds a run of places to the tallies of the classes.
+fn end_run(areas: &mut BTreeMap<i64, Tally>, run: Run) -> Result<(), AllocError>
+    requires old { (own : ℤ) → IsTally (tally_at areas.old own) }
+    requires run { IsTally run.tally }
+    requires few { (own : ℤ) → (tally_with areas.old run own).count ≤ most_cells }
+    ensures tallies { OnOk result ((own : ℤ) → tally_at areas.new own ≡ tally_with areas.old run own) }
+    ensures sound { OnOk result ((own : ℤ) → IsTally (tally_at areas.new own)) }
+{
+    if run.tally.count == 0 {
+        return Ok(());
+    }
+    add(areas, run.class, run.tally)
+}
+
+// Adds a number of a class: to the run, which ends where it is of another class.
+fn add_number(
+    areas: &mut BTreeMap<i64, Tally>,
+    run: &mut Run,
+    class: i64,
+    number: i64,
+) -> Result<(), AllocError>
+    requires old { (own : ℤ) → IsTally (tally_at areas.old own) }
+    requires run { IsTally run.old.tally }
+    requires few { (own : ℤ) → (tally_with areas.old run.old own).count + 1 ≤ most_cells }
+    ensures tallies { OnOk result ((own : ℤ) → tally_with areas.new run.new own ≡ tally_join (tally_with areas.old run.old own) (seen_from own class (tally_of_one number))) }
+    ensures sound { OnOk result ((own : ℤ) → IsTally (tally_at areas.new own)) }
+    ensures run { OnOk result (IsTally run.new.tally) }
+{
+    let one = Tally::one(number);
+    if class == run.class {
+        run.tally = run.tally.join(one);
+        return Ok(());
+    }
+    end_run(areas, *run)?;
+    *run = Run { class, tally: one };
+    Ok(())
+}
+
 // Adds a place to the tallies of the classes.
 fn add_place(
     areas: &mut BTreeMap<i64, Tally>,
+    run: &mut Run,
     op: AreaOp,
     value: Cell,
     area: Cell,
 ) -> Result<(), AllocError>
     requires old { (own : ℤ) → IsTally (tally_at areas.old own) }
-    requires few { (own : ℤ) → (tally_at areas.old own).count + 1 ≤ most_cells }
-    ensures tallies { OnOk result ((own : ℤ) → tally_at areas.new own ≡ tally_join (tally_at areas.old own) (place_tally op own value area)) }
+    requires run { IsTally run.old.tally }
+    requires few { (own : ℤ) → (tally_with areas.old run.old own).count + 1 ≤ most_cells }
+    ensures tallies { OnOk result ((own : ℤ) → tally_with areas.new run.new own ≡ tally_join (tally_with areas.old run.old own) (place_tally op own value area)) }
     ensures sound { OnOk result ((own : ℤ) → IsTally (tally_at areas.new own)) }
+    ensures run { OnOk result (IsTally run.new.tally) }
 {
     match (area, taken(op, value)) {
-        (Cell::Val(class), Some(number)) => add(areas, class, Tally::one(number)),
+        (Cell::Val(class), Some(number)) => add_number(areas, run, class, number),
         _ => Ok(()),
     }
 }
@@ -110,9 +159,20 @@ fn tallies(
     ensures sound { IfOk result (λ areas. AreTallies len (tally_at areas)) }
 {
     let mut areas = BTreeMap::new(alloc);
+    let mut run = Run {
+        class: 0,
+        tally: Tally::none(),
+    };
     for place in 0..len {
-        add_place(&mut areas, op, values.at(place), classes.at(place))?;
+        add_place(
+            &mut areas,
+            &mut run,
+            op,
+            values.at(place),
+            classes.at(place),
+        )?;
     }
+    end_run(&mut areas, run)?;
     Ok(areas)
 }
 

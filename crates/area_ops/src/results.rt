@@ -77,14 +77,38 @@ pub fn counted(alloc: Global, op: AreaOp, counts: &Counts) -> Result<Results, Al
     led(alloc, op, &leaders(alloc, counts)?)
 }
 
-// What the results give at a place of a class.
+// What the results give of a class.
 #[tactic(auto, unfolding(crate::specs::inside::Leaders::class_result))]
-fn outcome(results: &Results, area: Cell) -> Result<Cell, Over>
-    ensures { result ≡ place_result results.now.entries area }
+fn class_outcome(results: &Results, class: i64) -> Result<Cell, Over>
+    ensures { result ≡ class_result results.now.entries class }
+{
+    results.get(&class).copied().unwrap_or(Ok(Cell::Mv))
+}
+
+// What the results give of one class, kept for places of the same class.
+#[derive(Clone, Copy)]
+struct Known {
+    class: i64,
+    outcome: Result<Cell, Over>,
+}
+
+// What the results give at a place of a class. The class before is not looked up again.
+fn outcome(results: &Results, known: &mut Known, area: Cell) -> Result<Cell, Over>
+    requires { known.old.outcome ≡ class_result results.now.entries known.old.class }
+    ensures known { known.new.outcome ≡ class_result results.now.entries known.new.class }
+    ensures value { result ≡ place_result results.now.entries area }
 {
     match area {
         Cell::Mv => Ok(Cell::Mv),
-        Cell::Val(class) => results.get(&class).copied().unwrap_or(Ok(Cell::Mv)),
+        Cell::Val(class) => {
+            if class != known.class {
+                *known = Known {
+                    class,
+                    outcome: class_outcome(results, class),
+                };
+            }
+            known.outcome
+        }
     }
 }
 
@@ -100,9 +124,13 @@ pub fn outcomes(
     ensures { IfOk result (λ part. part ≡ part_of (λ place. place_result results.now.entries (arg_cell classes.entry place)) len) }
 {
     let mut cells = Vec::with_capacity(alloc, len)?;
+    let mut known = Known {
+        class: 0,
+        outcome: class_outcome(results, 0),
+    };
     let mut over = None;
     for place in 0..len {
-        match outcome(results, classes.at(place)) {
+        match outcome(results, &mut known, classes.at(place)) {
             Ok(cell) => cells.push(cell)?,
             Err(_) => {
                 cells.push(Cell::Mv)?;
