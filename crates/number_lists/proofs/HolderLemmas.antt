@@ -128,3 +128,34 @@ holders_few k n (xs ∷ more) =
 -- a number has no more holders than the lists have numbers
 pub turned_few : (count k : ℕ) (lists : List (List ℕ)) → k < count → length (get_or (turned_of count lists) k []) ≤ numbers_in lists
 turned_few count k lists below = subst (λ (xs : List ℕ). length xs ≤ numbers_in lists) (sym (holders_at count k lists below)) (holders_few k 0 lists)
+
+-- ---- which
+
+-- each number is below the first one
+Under : ℕ → List ℕ → Type 0
+Under top [] = ⊤
+Under top (x ∷ xs) = (x < top) × Under top xs
+
+under_replicate : (top m n : ℕ) (ys : List ℕ) → n < top → Under top ys → Under top (replicate m n ++ ys)
+unfolding Under
+under_replicate top zero n ys less h = h
+under_replicate top (suc m) n ys less h = (less, under_replicate top m n ys less h)
+
+holders_under : (k n top : ℕ) (lists : List (List ℕ)) → top ≡ n + length lists → Under top (holders_from k n lists)
+unfolding Under
+holders_under k n top [] is = tt
+holders_under k n top (xs ∷ more) is =
+    under_replicate top (times k xs) n (holders_from k (n + 1) more) (omega arith) (holders_under k (n + 1) top more (omega arith))
+
+under_at : (top : ℕ) (xs : List ℕ) (i : ℕ) → Under top xs → i < length xs → get_or xs i 0 < top
+unfolding Under
+under_at top [] i h below = absurd (omega arith)
+under_at top (x ∷ xs) zero h below = h.0
+under_at top (x ∷ xs) (suc i) h below = under_at top xs i h.1 (omega arith)
+
+-- a holder is one of the lists
+pub turned_below : (count k i : ℕ) (lists : List (List ℕ)) → k < count → i < length (get_or (turned_of count lists) k []) → get_or (get_or (turned_of count lists) k []) i 0 < length lists
+turned_below count k i lists below within =
+    let at = holders_at count k lists below in
+    subst (λ (xs : List ℕ). get_or xs i 0 < length lists) (sym at)
+    (under_at (length lists) (holders_from k 0 lists) i (holders_under k 0 (length lists) lists (omega arith)) (subst (λ (xs : List ℕ). i < length xs) at within))

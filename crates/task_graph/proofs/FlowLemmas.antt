@@ -1,5 +1,5 @@
 -- The tasks of transports.
-use Rattle.std.proofs.Common.{◌≡◌, ◌∙◌, ℕ, zero, suc, ◌+◌, ◌<◌, List, [], ◌∷◌, ◌++◌, length, get_or, map, refl, sym, ap, subst, arith, append_assoc}
+use Rattle.std.proofs.Common.{◌≡◌, ◌≢◌, ◌∙◌, ℕ, zero, suc, ◌+◌, ◌<◌, List, [], ◌∷◌, ◌++◌, length, get_or, map, refl, sym, ap, subst, arith, append_assoc}
 use Rattle.std.specs.List.{range_with_len}
 use Rattle.std.proofs.lemmas.List.{get_or-append-add, get_or_append_left, length-append, length-map, map-append}
 use Rattle.task_graph.proofs.Climbs.{Each}
@@ -17,13 +17,13 @@ use Rattle.task_graph.specs.declared.layout.Laid.{Laid}
 use Rattle.task_graph.specs.declared.layout.Layout.{Layout}
 use Rattle.task_graph.specs.declared.task.Task.{Task}
 use Rattle.task_graph.specs.declared.task.Work.{Work}
-use Rattle.task_graph.specs.declared.task.Work.TheVariants.{Flow}
+use Rattle.task_graph.specs.declared.task.Work.TheVariants.{Local, Window, Near, Partial, Merge, Spread, Flow}
 use Rattle.task_graph.specs.Classes.{op_class}
 use Rattle.task_graph.specs.Layouts.{laid_in, layout_of, size_for}
 use Rattle.task_graph.specs.Needs.{Entry, each_tile, entries_for, entries_from, entry_of, task_for}
-use Rattle.task_graph.specs.Plans.{flow_by, flows_from, no_task, span_plan}
+use Rattle.task_graph.specs.Plans.{entries_of, flow_by, flows_from, no_task, span_plan, task_at}
 use Rattle.task_graph.specs.inside.Grown.{tasks_of_entries}
-use Rattle.task_graph.proofs.Climbs.{each_append}
+use Rattle.task_graph.proofs.Climbs.{each_append, each_at, each_map, each_range}
 use Rattle.task_graph.proofs.Low.{length-entries_for}
 
 -- the tasks of a transport stand from its first one on, one for each tile
@@ -100,3 +100,45 @@ flows_stand y start (l ∷ more) before at =
 pub plan_flows : (program : Program) (s : Span) (g : Tiling) → Each (FlowStands (tile_count g) (span_plan program s g).tasks) (span_plan program s g).flows
 unfolding span_plan
 plan_flows program s g = flows_stand (layout_of program s g) 0 (laid_in program s) [] refl
+
+-- ---- plans without transports
+
+-- the task of an entry is no transport's
+abbrev IsNoFlow : Entry → Type 0
+IsNoFlow e = e.task.work ≢ Flow
+
+tiles_no_flow : (y : Layout) (start : ℕ) (l : Laid) (w : Work) → w ≢ Flow → Each IsNoFlow (each_tile y start l w)
+tiles_no_flow y start l w apart =
+    each_map IsNoFlow (entry_of y start l w) (range_with_len 0 (tile_count y.tiling)) (each_range (λ tile. w ≢ Flow) 0 (tile_count y.tiling) (λ tile below. apart))
+
+entries_no_flow : (y : Layout) (start : ℕ) (l : Laid) (c : Class) → c ≢ class.Flow → Each IsNoFlow (entries_for y start l c)
+entries_no_flow y start l class.Local apart = tiles_no_flow y start l Local (λ e. cc)
+entries_no_flow y start l class.Window apart = tiles_no_flow y start l Window (λ e. cc)
+entries_no_flow y start l class.Near apart = tiles_no_flow y start l Near (λ e. cc)
+entries_no_flow y start l class.Flow apart = absurd (apart refl)
+entries_no_flow y start l class.Area apart =
+    each_append IsNoFlow (each_tile y start l Partial) (entry_of y start l Merge 0 ∷ each_tile y start l Spread) (tiles_no_flow y start l Partial (λ e. cc))
+    ((λ e. cc), tiles_no_flow y start l Spread (λ e. cc))
+
+no_flow_class : (start drain : ℕ) (o : Op) → flow_by start drain o ≡ [] → op_class o ≢ class.Flow
+no_flow_class start drain (op.Flow q) none = absurd (cc)
+no_flow_class start drain _ none = λ e. cc
+
+front_none : {A : Type 0} (xs ys : List A) → xs ++ ys ≡ [] → (xs ≡ []) × (ys ≡ [])
+front_none [] ys e = (refl, e)
+front_none (x ∷ xs) ys e = absurd (cc)
+
+all_no_flow : (y : Layout) (start : ℕ) (laid : List Laid) → flows_from (tile_count y.tiling) start laid ≡ [] → Each IsNoFlow (entries_from y start laid)
+all_no_flow y start [] none = tt
+all_no_flow y start (l ∷ more) none =
+    let parts = front_none (flow_by start l.operation.drain l.operation.op) (flows_from (tile_count y.tiling) (start + size_for (tile_count y.tiling) l) more) none in
+    each_append IsNoFlow (entries_for y start l (op_class l.operation.op)) (entries_from y (start + size_for (tile_count y.tiling) l) more)
+    (entries_no_flow y start l (op_class l.operation.op) (no_flow_class start l.operation.drain l.operation.op parts.0))
+    (all_no_flow y (start + size_for (tile_count y.tiling) l) more parts.1)
+
+-- a plan without transports has no task of one
+pub plan_no_flow : (program : Program) (s : Span) (g : Tiling) → (span_plan program s g).flows ≡ [] → (t : ℕ) → t < length (span_plan program s g).tasks → (task_at (span_plan program s g) t).work ≢ Flow
+unfolding span_plan
+plan_no_flow program s g none t below =
+    each_at (λ (x : Task). x.work ≢ Flow) (tasks_of_entries (entries_of program s g)) t no_task
+    (each_map (λ (x : Task). x.work ≢ Flow) (λ (e : Entry). e.task) (entries_of program s g) (all_no_flow (layout_of program s g) 0 (laid_in program s) none)) below

@@ -1,3 +1,4 @@
+pub mod Callers
 pub mod ReadLemmas
 pub mod Climbs
 pub mod Orders

@@ -1,11 +1,12 @@
 ghost use Rattle.std.specs.Prelude.{◌≡◌, ◌≤◌, ◌<◌, length, slice_get, slice_index, Some, IfErr, IfOk};
 ghost use Rattle.tile_map.specs.Tiles.{tile_count};
+ghost use Rattle.number_lists.specs.Lists.{numbers_in};
 ghost use Rattle.map_meaning.specs.Limits.{most_block};
 ghost use Rattle.map_meaning.specs.Programs.{IsWellFormed};
 ghost use Rattle.map_meaning.specs.Spans.{IsSpan};
 ghost use Rattle.task_graph.specs.Counts.{span_tasks};
 ghost use Rattle.task_graph.specs.Layouts.{laid_in};
-ghost use Rattle.task_graph.specs.Limits.{most_tasks};
+ghost use Rattle.task_graph.specs.Limits.{most_needs, most_tasks};
 ghost use Rattle.task_graph.specs.Plans.{entries_of, needs_at, readers_at, span_plan};
 ghost use Rattle.task_graph.specs.Ends.{IsEndAt};
 ghost use Rattle.task_graph.specs.inside.Grown.{IsDrawn};
@@ -168,7 +169,8 @@ fn planned(
     requires program { IsWellFormed program.now }
     requires span { IsSpan program.now span most_block }
     requires few { span_tasks (tile_count tiling.now) program.now span ≤ most_tasks }
-    ensures { IfOk result (λ plan. plan ≡ span_plan program.now span tiling.now) }
+    ensures plan { IfOk result (λ plan. plan ≡ span_plan program.now span tiling.now) }
+    ensures few { IfOk result (λ plan. numbers_in plan.needs ≤ most_needs) }
 {
     let laid = lay(alloc, program, span)?;
     let Drawn { tasks, needs } = drawn(alloc, program, span, tiling, laid.as_slice())?;
@@ -193,6 +195,7 @@ pub fn build_plan(
     requires program { IsWellFormed program.now }
     requires span { IsSpan program.now span most_block }
     ensures plan { IfOk result (λ plan. (span_tasks (tile_count tiling.now) program.now span ≤ most_tasks) × (plan ≡ span_plan program.now span tiling.now)) }
+    ensures few { IfOk result (λ plan. numbers_in plan.needs ≤ most_needs) }
     ensures end { IfErr result (IsEndAt (span_tasks (tile_count tiling.now) program.now span)) }
 {
     let count = span_tasks(program, span, tiling.count());

@@ -11,8 +11,8 @@ flows-requires-clause-tiles c = omega (arith, count_few c.args.tiling.now, c.cou
 pub flows-requires-clause-few : goal.flows-requires-clause-few
 flows-requires-clause-few c = few_laid c.args.program.now c.args.span c.args.tiling.now c.count.result c.as_slice-2.result.now c.count.ensures (c.as_slice-2.ensures ∙ c.in_ok-laid.ensures) c.requires.few
 
-pub returns : goal.returns
-returns c =
+pub returns-clause-plan : goal.returns-clause-plan
+returns-clause-plan c =
     let program = c.args.program.now in
     plan_same program c.args.span c.args.tiling.now c.in_ok-tasks.field-0.tasks c.in_ok-tasks.field-0.needs c.in_ok-flows.flows
     c.in_ok-tasks.ensures.drawn.tasks c.in_ok-tasks.ensures.drawn.needs
