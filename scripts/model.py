@@ -95,9 +95,18 @@ class Model:
         return [(number, file) for number, form, word in self.outputs() for file in self.files_of(form, word)]
 
     def known(self):
-        """What the script and the inputs are, by the place where each really lies."""
-        inputs = {os.path.realpath(file): f"the input {file}" for file in self.files_read()}
-        return {**inputs, os.path.realpath(self.path): "the script"}
+        """What the script and the inputs are, by the identity of each file."""
+        inputs = {identity(file): f"the input {file}" for file in self.files_read()}
+        return {**{one: what for one, what in inputs.items() if one}, identity(self.path): "the script"}
+
+
+def identity(file):
+    """What two names of one file have in common, be they links of either sort; None where there is no file."""
+    try:
+        found = os.stat(file)
+        return found.st_dev, found.st_ino
+    except OSError:
+        return None
 
 
 def read_model(path):
