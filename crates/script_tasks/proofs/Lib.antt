@@ -1,0 +1,4 @@
+pub mod CountLemmas
+mod StageLemmas
+mod TaskLemmas
+mod TreeLemmas
