@@ -5,7 +5,7 @@ use Rattle.std.proofs.lemmas.List.{get_or-map, get_or-replicate, length-map, len
 use Rattle.core_model.specs.Graphs.{Each, IsSoundGraph}
 use Rattle.number_lists.specs.Lists.{numbers_in}
 use Rattle.number_lists.specs.Turned.{turned_of}
-use Rattle.number_lists.proofs.Callers.{list_few, turned_are_turned, turned_below}
+use Rattle.number_lists.proofs.Callers.{list_few, turned_are_turned, turned_below, turned_few}
 use Rattle.tile_map.specs.declared.tiling.Tiling.{Tiling}
 use Rattle.map_meaning.specs.Limits.{most_block}
 use Rattle.map_meaning.specs.Programs.{IsWellFormed}
@@ -80,6 +80,9 @@ local_keeps s plan is few few_needs =
       few = omega arith;
       few_tasks = omega arith;
       few_needs = λ t below. let one = list_few plan.needs t in omega arith;
+      few_readers = λ t below. let one = turned_few count t plan.needs below in omega arith;
+      plan_tasks = refl;
+      plan_needs = refl;
     }
 
 pub few_tasks : (program : Program) (s : Span) (g : Tiling) (plan : PlanValue) → plan ≡ span_plan program s g → span_tasks (tile_count g) program s ≤ most_tasks → length plan.tasks ≤ most_tasks

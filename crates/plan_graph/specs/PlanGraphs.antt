@@ -85,6 +85,9 @@ pub record IsPlan (p : PlanGraphValue) : Type 0 where
   pub few : 2 * p.tasks + 4 * p.edges < 2 ^ 60
   pub few_tasks : p.tasks < 2 ^ 32
   pub few_needs : (t : ℕ) → t < p.tasks → length (list_at p.needs t) < 2 ^ 32
+  pub few_readers : (t : ℕ) → t < p.tasks → length (list_at p.readers t) < 2 ^ 32
+  pub plan_tasks : p.tasks ≡ length p.plan.tasks
+  pub plan_needs : p.needs ≡ p.plan.needs
 
 -- It is the plan of its span: of this program, over these tiles. (A plan without transports asks nothing of what is known.)
 abbrev pub IsPlanOf : Program → Known → Tiling → PlanGraphValue → Type 0

@@ -111,10 +111,10 @@ room_for n cs t e lt none' most =
     let a = length-append cs (t ∷ []) in omega arith
 
 module _ (xs : List ℕ) (i r : ℕ) (at : r ≡ get_or xs i 0) (i_lt : i < length xs) where
-  more_here : times r (take (i + 1) xs) ≡ times r (take i xs) + 1
+  pub more_here : times r (take (i + 1) xs) ≡ times r (take i xs) + 1
   more_here = let m = times_more r xs i i_lt in let q : flag (get_or xs i 0 == r) ≡ 1 = ap flag (eq-eqb (get_or xs i 0) r (sym at)) in omega arith
 
-  more_there : (t : ℕ) → t ≢ r → times t (take (i + 1) xs) ≡ times t (take i xs)
+  pub more_there : (t : ℕ) → t ≢ r → times t (take (i + 1) xs) ≡ times t (take i xs)
   more_there t ne = let m = times_more t xs i i_lt in let q : flag (get_or xs i 0 == t) ≡ 0 = ap flag (ne_eqb (get_or xs i 0) t (λ e. ne (sym (at ∙ e)))) in omega arith
 
   pub owed_here : (old now : ℕ) → now + times r (take i xs) ≡ old → times r xs ≤ old → 1 ≤ now
