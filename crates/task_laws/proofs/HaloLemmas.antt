@@ -19,7 +19,8 @@ use Rattle.tile_map.specs.Parts.{part_of, tabulate}
 use Rattle.tile_map.specs.Rects.{IsInMap, cell_count, grown, place_in}
 use Rattle.tile_map.proofs.PartLemmas.{get_or-tabulate}
 use Rattle.window_ops.specs.Surroundings.{AreAround, IsInside}
-use Rattle.window_ops.proofs.AroundLemmas.{outcome-around, part_of-same}
+use Rattle.tile_map.proofs.Callers.{part_of-same}
+use Rattle.window_ops.proofs.AroundLemmas.{outcome-around}
 use Rattle.map_meaning.specs.Maps.{CellAt}
 use Rattle.map_meaning.specs.Rules.{Rule, Setting, by_rule, drain_by, operand_at, reach_of, whole_by}
 use Rattle.tile_cuts.specs.TileParts.{part_in}

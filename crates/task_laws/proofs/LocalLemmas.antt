@@ -2,7 +2,7 @@
 use Rattle.std.proofs.Common.{◌≡◌, ℕ, List, sym, ap, subst, ◌∙◌}
 use Rattle.cell_values.specs.declared.cell.Cell.{Cell}
 use Rattle.tile_map.specs.Rects.{cell_count, place_in}
-use Rattle.window_ops.proofs.AroundLemmas.{part_of-same}
+use Rattle.tile_map.proofs.Callers.{part_of-same}
 use Rattle.map_meaning.specs.Maps.{CellAt}
 use Rattle.map_meaning.specs.Rules.{Rule, Local, Setting, by_rule, operand_at, outcome_of}
 use Rattle.tile_cuts.specs.TileParts.{part_in}
