@@ -2,8 +2,9 @@
 //! It prints the lines that `timed_calls` prints for `cells`, `maps`, `tiles`, `table`, `turns`, `drains`, `windows` and `areas`.
 
 use std::cmp::Reverse;
-use std::collections::{BTreeMap, HashMap, HashSet};
+use std::collections::{BTreeMap, HashMap};
 use std::env;
+use std::hash::{BuildHasherDefault, Hasher};
 use std::hint::black_box;
 use std::sync::Mutex;
 use std::time::Instant;
@@ -255,25 +256,37 @@ fn check(codes: &[Cell]) -> bool {
     }
     queue.len() == cells
 }
+/// Where the cell drains to, by its code alone: of a map that is sound.
+fn down(code: Cell, p: usize) -> Option<usize> {
+    match code {
+        Mv | Val(5) => None,
+        Val(k) => Some(p + SIDE * (3 - (k as usize - 1) / 3) + (k as usize - 1) % 3 - 2 * SIDE - 1),
+    }
+}
+// down each chain as long as the last feeding cell is done: no order is stored, and what came is carried along
 #[inline(never)]
 fn accuflux(codes: &[Cell], a: i64) -> (Vec<Cell>, Option<u32>) {
+    const DONE: u8 = 255;
     let n = codes.len();
     let mut count = vec![0u8; n];
-    for p in 0..n { if let Next::Cell(d) = next_cell(codes, p) { count[d] += 1 } }
-    let mut sums: Vec<Option<i128>> = vec![Some(0); n];
+    for (p, code) in codes.iter().enumerate() {
+        if let Some(d) = down(*code, p) { count[d] += 1 }
+    }
+    let mut sums = vec![0i128; n];
     let mut out = vec![Mv; n];
     let mut over: Option<u32> = None;
-    let mut queue: Vec<u32> = (0..n as u32).filter(|p| count[*p as usize] == 0 && codes[*p as usize] != Mv).collect();
-    let mut at = 0;
-    while at < queue.len() {
-        let p = queue[at] as usize;
-        let total = sums[p].map(|s| s + a as i128);
-        out[p] = match total { None => Mv, Some(t) if -(MOST as i128) <= t && t <= MOST as i128 => Val(t as i64), Some(_) => { over = Some(over.map_or(p as u32, |o| o.min(p as u32))); Mv } };
-        if let Next::Cell(d) = next_cell(codes, p) {
-            sums[d] = match (sums[d], total) { (Some(x), Some(y)) => Some(x + y), _ => None };
-            count[d] -= 1; if count[d] == 0 { queue.push(d as u32) }
+    for start in 0..n {
+        if count[start] != 0 || codes[start] == Mv { continue }
+        let (mut p, mut came) = (start, 0i128);
+        loop {
+            count[p] = DONE;
+            let total = came + a as i128;
+            out[p] = if -(MOST as i128) <= total && total <= MOST as i128 { Val(total as i64) } else { over = Some(over.map_or(p as u32, |o| o.min(p as u32))); Mv };
+            let Some(d) = down(codes[p], p) else { break };
+            came = sums[d] + total;
+            if count[d] > 1 { count[d] -= 1; sums[d] = came; break }
+            p = d;
         }
-        at += 1;
     }
     (out, over)
 }
@@ -295,52 +308,145 @@ fn time_drains() {
     }
 }
 
-/// What is made of the values in each window, none where there is none: a loop over the window's cells.
-fn windows<T>(a: &[Cell], k: usize, begin: impl Fn() -> T, add: impl Fn(&mut T, i64), end: impl Fn(T) -> Option<i128>) -> (Vec<Cell>, Option<u32>) {
-    let mut out = Vec::with_capacity(a.len());
-    let mut over = None;
+type Windows = (Vec<Cell>, Option<u32>);
+/// The cells that numbers make, and the first place out of range.
+struct Made { cells: Vec<Cell>, over: Option<u32> }
+impl Made {
+    fn new(len: usize) -> Made { Made { cells: Vec::with_capacity(len), over: None } }
+    fn push(&mut self, number: Option<i128>) {
+        let cell = match number {
+            None => Mv,
+            Some(v) if -(MOST as i128) <= v && v <= MOST as i128 => Val(v as i64),
+            Some(_) => { if self.over.is_none() { self.over = Some(self.cells.len() as u32) } Mv }
+        };
+        self.cells.push(cell);
+    }
+    fn end(self) -> Windows { (self.cells, self.over) }
+}
+fn sum_and_count(made: &mut (i128, u32), v: i64) { made.0 += v as i128; made.1 += 1; }
+
+/// What is made of the sum and the number of the values in each window: the sums of the columns run down the rows, and that of the window along them.
+fn window_sums(a: &[Cell], k: usize, end: impl Fn(i128, u32) -> i128) -> Windows {
+    let mut made = Made::new(a.len());
+    let mut columns = vec![(0i128, 0u32); SIDE];
+    let row_of = |row: usize| &a[row * SIDE..(row + 1) * SIDE];
+    let take = |columns: &mut [(i128, u32)], row: usize| {
+        for (column, cell) in columns.iter_mut().zip(row_of(row)) { if let Val(v) = cell { sum_and_count(column, *v) } }
+    };
+    for row in 0..k.min(SIDE) { take(&mut columns, row) }
     for row in 0..SIDE {
+        if row + k < SIDE { take(&mut columns, row + k) }
+        if row > k {
+            for (column, cell) in columns.iter_mut().zip(row_of(row - k - 1)) { if let Val(v) = cell { column.0 -= *v as i128; column.1 -= 1 } }
+        }
+        let (mut sum, mut count) = (0i128, 0u32);
+        for column in &columns[..k.min(SIDE)] { sum += column.0; count += column.1 }
         for col in 0..SIDE {
-            let mut made = begin();
-            for r in row.saturating_sub(k)..SIDE.min(row + k + 1) {
-                for cell in &a[r * SIDE + col.saturating_sub(k)..r * SIDE + SIDE.min(col + k + 1)] {
-                    if let Val(v) = cell { add(&mut made, *v) }
-                }
-            }
-            out.push(match end(made) {
-                None => Mv,
-                Some(v) if -(MOST as i128) <= v && v <= MOST as i128 => Val(v as i64),
-                Some(_) => { if over.is_none() { over = Some((row * SIDE + col) as u32) } Mv }
-            });
+            if col + k < SIDE { sum += columns[col + k].0; count += columns[col + k].1 }
+            if col > k { sum -= columns[col - k - 1].0; count -= columns[col - k - 1].1 }
+            made.push((count > 0).then(|| end(sum, count)));
         }
     }
-    (out, over)
+    made.end()
 }
-type Windows = (Vec<Cell>, Option<u32>);
-fn sum_and_count(made: &mut (i128, u32), v: i64) { made.0 += v as i128; made.1 += 1; }
 #[inline(never)]
-fn window_total(a: &[Cell], k: usize) -> Windows {
-    windows(a, k, || (0, 0), sum_and_count, |(total, count)| (count > 0).then_some(total))
-}
+fn window_total(a: &[Cell], k: usize) -> Windows { window_sums(a, k, |sum, _| sum) }
 #[inline(never)]
 fn window_average(a: &[Cell], k: usize) -> Windows {
-    windows(a, k, || (0, 0), sum_and_count, |(total, count)| (count > 0).then(|| {
-        let size = ((total.unsigned_abs() + count as u128 / 2) / count as u128) as i128;
-        if total < 0 { -size } else { size }
-    }))
+    window_sums(a, k, |sum, count| {
+        let size = ((sum.unsigned_abs() + count as u128 / 2) / count as u128) as i128;
+        if sum < 0 { -size } else { size }
+    })
+}
+
+/// The least of each line of lines and the `k` on both sides, in place, by the least from the front and from the back of blocks of a window's length.
+fn slide_least(lines: &mut Vec<Vec<i64>>, k: usize) {
+    let (count, width) = (lines.len(), 2 * k + 1);
+    let least = |a: &[i64], b: &[i64]| a.iter().zip(b).map(|(x, y)| *x.min(y)).collect::<Vec<i64>>();
+    let mut front: Vec<Vec<i64>> = Vec::with_capacity(count);
+    for (at, line) in lines.iter().enumerate() {
+        let next = if at % width == 0 { line.clone() } else { least(&front[at - 1], line) };
+        front.push(next);
+    }
+    let mut back = std::mem::take(lines);
+    for at in (0..count - 1).rev() { if (at + 1) % width != 0 { back[at] = least(&back[at], &back[at + 1]) } }
+    *lines = (0..count).map(|at| {
+        let (from, to) = (at.saturating_sub(k), (at + k).min(count - 1));
+        if from / width != to / width { least(&back[from], &front[to]) } else if from % width == 0 { front[to].clone() } else { back[from].clone() }
+    }).collect();
+}
+/// The least of each number and the `k` on both sides.
+fn slide_row(row: &mut [i64], k: usize, front: &mut Vec<i64>, back: &mut Vec<i64>) {
+    let (count, width) = (row.len(), 2 * k + 1);
+    front.clear();
+    back.clear();
+    back.extend_from_slice(row);
+    for at in 0..count { front.push(if at % width == 0 { row[at] } else { row[at].min(front[at - 1]) }) }
+    for at in (0..count - 1).rev() { if (at + 1) % width != 0 { back[at] = back[at].min(back[at + 1]) } }
+    for at in 0..count {
+        let (from, to) = (at.saturating_sub(k), (at + k).min(count - 1));
+        row[at] = if from / width != to / width { back[from].min(front[to]) } else if from % width == 0 { front[to] } else { back[from] };
+    }
 }
 #[inline(never)]
 fn window_minimum(a: &[Cell], k: usize) -> Windows {
-    windows(a, k, || None::<i64>, |least, v| *least = Some(least.map_or(v, |l| l.min(v))), |least| least.map(|l| l as i128))
+    let number = |cell: &Cell| if let Val(v) = cell { *v } else { i64::MAX };
+    let mut lines: Vec<Vec<i64>> = a.chunks(SIDE).map(|row| row.iter().map(number).collect()).collect();
+    slide_least(&mut lines, k);
+    let mut made = Made::new(a.len());
+    let (mut front, mut back) = (Vec::new(), Vec::new());
+    for mut line in lines {
+        slide_row(&mut line, k, &mut front, &mut back);
+        for v in line { made.push((v != i64::MAX).then_some(v as i128)) }
+    }
+    made.end()
+}
+
+/// A hash of one multiplication.
+#[derive(Default)]
+struct Fast(u64);
+impl Hasher for Fast {
+    fn finish(&self) -> u64 { self.0 }
+    fn write(&mut self, bytes: &[u8]) { for byte in bytes { self.write_u64(*byte as u64) } }
+    fn write_u64(&mut self, n: u64) { self.0 = (self.0 ^ n).wrapping_mul(0x9e37_79b9_7f4a_7c15).rotate_left(26) }
+    fn write_i64(&mut self, n: i64) { self.write_u64(n as u64) }
+}
+type Counts = HashMap<i64, u32, BuildHasherDefault<Fast>>;
+/// What is made of how often each value stands in a window: counts that slide along a row, a column in and another one out.
+fn window_counts(a: &[Cell], k: usize, end: impl Fn(&Counts) -> Option<i128>) -> Windows {
+    let mut made = Made::new(a.len());
+    let mut counts = Counts::default();
+    for row in 0..SIDE {
+        counts.clear();
+        let rows = row.saturating_sub(k)..SIDE.min(row + k + 1);
+        let take = |counts: &mut Counts, col: usize| {
+            for r in rows.clone() { if let Val(v) = a[r * SIDE + col] { *counts.entry(v).or_insert(0) += 1 } }
+        };
+        let leave = |counts: &mut Counts, col: usize| {
+            for r in rows.clone() {
+                if let Val(v) = a[r * SIDE + col] {
+                    let count = counts.get_mut(&v).unwrap();
+                    *count -= 1;
+                    if *count == 0 { counts.remove(&v); }
+                }
+            }
+        };
+        for col in 0..k.min(SIDE) { take(&mut counts, col) }
+        for col in 0..SIDE {
+            if col + k < SIDE { take(&mut counts, col + k) }
+            if col > k { leave(&mut counts, col - k - 1) }
+            made.push(end(&counts));
+        }
+    }
+    made.end()
 }
 #[inline(never)]
 fn window_diversity(a: &[Cell], k: usize) -> Windows {
-    windows(a, k, HashSet::new, |seen, v| { seen.insert(v); }, |seen| (!seen.is_empty()).then(|| seen.len() as i128 * 1_000_000))
+    window_counts(a, k, |counts| (!counts.is_empty()).then(|| counts.len() as i128 * 1_000_000))
 }
 #[inline(never)]
 fn window_majority(a: &[Cell], k: usize) -> Windows {
-    let most = |counts: HashMap<i64, u32>| counts.into_iter().max_by_key(|(v, n)| (*n, Reverse(*v))).map(|(v, _)| v as i128);
-    windows(a, k, HashMap::new, |counts, v| *counts.entry(v).or_insert(0) += 1, most)
+    window_counts(a, k, |counts| counts.iter().max_by_key(|(v, n)| (**n, Reverse(**v))).map(|(v, _)| *v as i128))
 }
 fn time_windows() {
     let cells = drawn(SIDE * SIDE, 1442695040888963407, 33);
@@ -350,35 +456,56 @@ fn time_windows() {
         println!("{name} {best} {sum}");
     };
     say("total_near", 5, window_total, 1, &cells);
-    say("total_wide", 1, window_total, 15, &cells);
+    say("total_wide", 5, window_total, 15, &cells);
     say("average_near", 5, window_average, 1, &cells);
-    say("average_wide", 1, window_average, 15, &cells);
+    say("average_wide", 5, window_average, 15, &cells);
     say("minimum_near", 5, window_minimum, 1, &cells);
-    say("minimum_wide", 1, window_minimum, 15, &cells);
+    say("minimum_wide", 5, window_minimum, 15, &cells);
     say("diversity_near", 2, window_diversity, 1, &classes);
     say("majority_near", 2, window_majority, 1, &classes);
 }
 
-/// The average of each class of a map, at each of its cells: an ordered map from classes to sums, as the program has, then a pass that spreads.
+/// The average of each class of a map, at each of its cells, and then a pass that spreads. What is kept of classes that lie close together
+/// stands in an array by their numbers, of others in an ordered map.
 #[inline(never)]
 fn area_average(a: &[Cell], classes: &[Cell]) -> (Vec<Cell>, Option<u32>) {
-    let mut sums: BTreeMap<i64, (i128, u32)> = BTreeMap::new();
-    for (cell, class) in a.iter().zip(classes) {
-        if let (Val(v), Val(class)) = (cell, class) { sum_and_count(sums.entry(*class).or_insert((0, 0)), *v) }
-    }
-    let averages: BTreeMap<i64, i128> = sums.into_iter().map(|(class, (total, count))| {
+    const SPAN: i64 = 1 << 16;
+    let numbers = || classes.iter().filter_map(|class| if let Val(class) = class { Some(*class) } else { None });
+    let (least, most) = (numbers().min().unwrap_or(0), numbers().max().unwrap_or(0));
+    let average = |(total, count): (i128, u32)| (count > 0).then(|| {
         let size = ((total.unsigned_abs() + count as u128 / 2) / count as u128) as i128;
-        (class, if total < 0 { -size } else { size })
-    }).collect();
+        if total < 0 { -size } else { size }
+    });
+    let pairs = a.iter().zip(classes);
+    if most.checked_sub(least).is_some_and(|span| span < SPAN) {
+        let mut sums = vec![(0i128, 0u32); (most - least + 1) as usize];
+        for pair in pairs {
+            if let (Val(v), Val(class)) = pair { sum_and_count(&mut sums[(class - least) as usize], *v) }
+        }
+        let averages: Vec<Option<i128>> = sums.into_iter().map(average).collect();
+        return spread(classes, |class| averages[(class - least) as usize]);
+    }
+    let mut sums: BTreeMap<i64, (i128, u32)> = BTreeMap::new();
+    for pair in pairs {
+        if let (Val(v), Val(class)) = pair { sum_and_count(sums.entry(*class).or_insert((0, 0)), *v) }
+    }
+    let averages: BTreeMap<i64, Option<i128>> = sums.into_iter().map(|(class, sum)| (class, average(sum))).collect();
+    spread(classes, |class| averages.get(&class).copied().flatten())
+}
+/// What is known of each class, at each place.
+fn spread(classes: &[Cell], found: impl Fn(i64) -> Option<i128>) -> (Vec<Cell>, Option<u32>) {
     let mut over = None;
-    let cells = classes.iter().enumerate().map(|(i, class)| match class {
-        Mv => Mv,
-        Val(class) => match averages.get(class) {
-            None => Mv,
-            Some(&v) if -(MOST as i128) <= v && v <= MOST as i128 => Val(v as i64),
-            Some(_) => { if over.is_none() { over = Some(i as u32) } Mv }
-        },
-    }).collect();
+    let mut cells = Vec::with_capacity(classes.len());
+    for (i, class) in classes.iter().enumerate() {
+        cells.push(match class {
+            Mv => Mv,
+            Val(class) => match found(*class) {
+                None => Mv,
+                Some(v) if -(MOST as i128) <= v && v <= MOST as i128 => Val(v as i64),
+                Some(_) => { if over.is_none() { over = Some(i as u32) } Mv }
+            },
+        });
+    }
     (cells, over)
 }
 fn time_areas() {

@@ -1,12 +1,11 @@
 //! The work of the made watershed in stock Rust, as a yardstick: rain by zones over four steps, soils smoothed by windows, what
 //! a threshold keeps and what flows on along drain directions, means by zones, and a time series. Each operation is one loop
-//! over whole maps of the same 16-byte cells, in the order of the script; little is checked. Drain order is found once.
+//! over whole maps of the same 16-byte cells, in the order of the script; little is checked. Where cells drain to is found once.
 //! On standard error it says how long each part took.
 
 mod grids;
 
 use grids::{Cell, MOST, front_millionths, print, put, read, refuse};
-use std::collections::HashMap;
 use std::fs;
 use std::time::{Duration, Instant};
 
@@ -28,10 +27,10 @@ fn in_range(value: i128) -> Cell {
     }
 }
 
-/// Where each cell drains to, and the cells in an order in which each comes behind all that drain into it.
+/// Where each cell drains to, and how many cells drain into it.
 struct Drains {
     next: Vec<u32>,
-    order: Vec<u32>,
+    feeders: Vec<u8>,
 }
 
 fn drains(cells: &[Cell], rows: usize, cols: usize) -> Drains {
@@ -50,29 +49,39 @@ fn drains(cells: &[Cell], rows: usize, cols: usize) -> Drains {
         next[place] = (row as usize * cols + col as usize) as u32;
         feeders[next[place] as usize] += 1;
     }
-    let mut order: Vec<u32> = (0..cells.len() as u32).filter(|place| feeders[*place as usize] == 0).collect();
-    let mut at = 0;
-    while at < order.len() {
-        let down = next[order[at] as usize];
-        at += 1;
-        if down != PIT {
-            feeders[down as usize] -= 1;
-            if feeders[down as usize] == 0 {
-                order.push(down);
-            }
-        }
-    }
-    if order.len() != cells.len() {
+    let drains = Drains { next, feeders };
+    let mut found = 0;
+    walk(&drains, |_| found += 1);
+    if found != cells.len() {
         refuse("unsound");
     }
-    Drains { next, order }
+    drains
+}
+
+/// Goes down each chain as long as the last feeding cell is done, so that each cell comes behind all that drain into it.
+fn walk(drains: &Drains, mut visit: impl FnMut(usize)) {
+    const DONE: u8 = u8::MAX;
+    let mut waits = drains.feeders.clone();
+    for start in 0..waits.len() {
+        let mut place = start;
+        while waits[place] == 0 {
+            waits[place] = DONE;
+            visit(place);
+            let down = drains.next[place];
+            if down == PIT {
+                break;
+            }
+            place = down as usize;
+            waits[place] -= 1;
+        }
+    }
 }
 
 /// What flows on above a threshold, or what it keeps.
 fn threshold(drains: &Drains, material: &[Cell], least: &[Cell], kept: bool) -> Vec<Cell> {
     let mut inflow: Vec<Option<i128>> = vec![Some(0); material.len()];
     let mut results = vec![Cell::Mv; material.len()];
-    for place in drains.order.iter().map(|place| *place as usize) {
+    walk(drains, |place| {
         let (mut out, mut result) = (None, Cell::Mv);
         if let (Some(inflow), Cell::Val(own), Cell::Val(least)) = (inflow[place], material[place], least[place]) {
             let total = inflow + own as i128;
@@ -89,7 +98,7 @@ fn threshold(drains: &Drains, material: &[Cell], least: &[Cell], kept: bool) -> 
                 _ => None,
             };
         }
-    }
+    });
     results
 }
 
@@ -98,38 +107,46 @@ fn rounded(sum: i128, count: i128) -> i128 {
     (sum + half) / count
 }
 
-/// The means of the cells round each place, three by three, without the missing ones.
+/// The means of the cells round each place, three by three, without the missing ones: the sums of the columns, of which each window takes three.
 fn window_means(cells: &[Cell], rows: usize, cols: usize) -> Vec<Cell> {
     let mut means = Vec::with_capacity(cells.len());
+    let mut columns = vec![(0i128, 0i128); cols];
     for row in 0..rows {
-        for col in 0..cols {
-            let (mut sum, mut count) = (0i128, 0i128);
-            for r in row.saturating_sub(1)..(row + 2).min(rows) {
-                for cell in &cells[r * cols + col.saturating_sub(1)..r * cols + (col + 2).min(cols)] {
-                    if let Cell::Val(value) = cell {
-                        sum += *value as i128;
-                        count += 1;
-                    }
+        columns.fill((0, 0));
+        for r in row.saturating_sub(1)..(row + 2).min(rows) {
+            for (column, cell) in columns.iter_mut().zip(&cells[r * cols..(r + 1) * cols]) {
+                if let Cell::Val(value) = cell {
+                    column.0 += *value as i128;
+                    column.1 += 1;
                 }
             }
+        }
+        for col in 0..cols {
+            let window = &columns[col.saturating_sub(1)..(col + 2).min(cols)];
+            let (sum, count) = window.iter().fold((0, 0), |all, column| (all.0 + column.0, all.1 + column.1));
             means.push(if count == 0 { Cell::Mv } else { in_range(rounded(sum, count)) });
         }
     }
     means
 }
 
-/// The means of the cells of each zone.
+/// The means of the cells of each zone. Zones lie close together, so their sums stand in an array by the zones' numbers.
 fn zone_means(cells: &[Cell], zones: &[Cell]) -> Vec<Cell> {
-    let mut sums: HashMap<i64, (i128, i128)> = HashMap::new();
-    for (cell, zone) in cells.iter().zip(zones) {
-        if let (Cell::Val(value), Some(zone)) = (cell, whole(*zone)) {
-            let entry = sums.entry(zone).or_insert((0, 0));
-            entry.0 += *value as i128;
-            entry.1 += 1;
+    let zones: Vec<Option<i64>> = zones.iter().map(|zone| whole(*zone)).collect();
+    let (least, most) = (zones.iter().flatten().min().copied().unwrap_or(0), zones.iter().flatten().max().copied().unwrap_or(0));
+    if most - least > 1 << 20 {
+        refuse("zones");
+    }
+    let mut sums = vec![(0i128, 0i128); (most - least + 1) as usize];
+    for (cell, zone) in cells.iter().zip(&zones) {
+        if let (Cell::Val(value), Some(zone)) = (cell, zone) {
+            let sum = &mut sums[(zone - least) as usize];
+            sum.0 += *value as i128;
+            sum.1 += 1;
         }
     }
-    let means: HashMap<i64, Cell> = sums.into_iter().map(|(zone, (sum, count))| (zone, in_range(rounded(sum, count)))).collect();
-    zones.iter().map(|zone| whole(*zone).and_then(|zone| means.get(&zone).copied()).unwrap_or(Cell::Mv)).collect()
+    let means: Vec<Cell> = sums.into_iter().map(|(sum, count)| if count == 0 { Cell::Mv } else { in_range(rounded(sum, count)) }).collect();
+    zones.iter().map(|zone| zone.map_or(Cell::Mv, |zone| means[(zone - least) as usize])).collect()
 }
 
 fn added(a: &[Cell], b: &[Cell]) -> Vec<Cell> {
@@ -173,7 +190,7 @@ fn main() {
     let soil = parts.of("reading", || read("made_soil.asc"));
     let rain = series("made_rain.tss");
     let (rows, cols) = (ldd.rows, ldd.cols);
-    let drains = parts.of("drain order", || drains(&ldd.cells, rows, cols));
+    let drains = parts.of("drain directions", || drains(&ldd.cells, rows, cols));
     let mut store: Vec<Cell> = vec![Cell::Val(0); rows * cols];
     let mut firsts: Vec<(i64, usize)> = Vec::new();
     for (place, zone) in zone.cells.iter().enumerate() {
