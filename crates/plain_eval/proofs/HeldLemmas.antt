@@ -1,21 +1,16 @@
 -- The maps that are held: those that are read later are there.
-use Rattle.std.proofs.Common.{◌≡◌, ℕ, zero, suc, ◌+◌, ◌*◌, ◌<◌, ◌≤◌, ◌-◌, Bool, true, false, cond, ◌&&◌, ◌||◌, ◌⊎◌, nat_eq, nat_lt, List, [], ◌∷◌, ◌++◌, length, get_or, drop, map, refl, sym, ap, subst, ◌∙◌, inl, inr, arith, append_assoc, length-append}
-use Rattle.std.specs.Prelude.{None, Some, Option, All, IfSome, max, nat_le, option_map, slice_get, slice_range, ◌==◌}
+use Rattle.std.proofs.Common.{◌≡◌, ℕ, zero, suc, ◌+◌, ◌*◌, ◌<◌, ◌≤◌, ◌-◌, Bool, true, false, cond, ◌&&◌, ◌⊎◌, nat_eq, nat_lt, List, [], ◌∷◌, ◌++◌, length, get_or, drop, map, refl, sym, ap, subst, ◌∙◌, inl, inr, arith, append_assoc, length-append}
+use Rattle.std.specs.Prelude.{None, Some, Option, All, IfSome, nat_le, option_map, slice_get, slice_range, ◌==◌}
 use Rattle.std.specs.List.{list_any}
 use Rattle.std.proofs.lemmas.Bool.{cases_eq, cases_lt, cases_order, eq-eqb, le-ltb, lt-ltb, ne_eqb, or_left, or_right}
-use Rattle.std.proofs.lemmas.List.{drop_more, get_or-append_right, get_or-drop, get_or-take, get_or_append_left, get_or_past, get_or_push, length-map, length_push}
+use Rattle.std.proofs.lemmas.List.{drop_more, get_or-append_right, get_or_append_left, get_or_past, get_or_push, length-map, length_push}
 use Rattle.std.proofs.lemmas.Option.{get_or_from_slice_get, slice_get_within}
-use Rattle.std.proofs.lemmas.Int.{ints}
-use Rattle.cell_values.specs.declared.cell.Cell.{Cell}
 use Rattle.cell_values.specs.declared.kind.Kind.{Kind}
-use Rattle.cell_values.specs.declared.kind.Kind.TheVariants as kinds
-use Rattle.cell_values.specs.Kinds.{IsCell}
 use Rattle.tile_map.specs.Cuts.{cell_at}
 use Rattle.tile_map.specs.Parts.{tabulate}
 use Rattle.map_meaning.specs.declared.known.Known.{Known}
 use Rattle.map_meaning.specs.declared.known.Span.{Span}
 use Rattle.map_meaning.specs.declared.known.Span.TheVariants as span
-use Rattle.map_meaning.specs.declared.known.StepMap.{StepMap}
 use Rattle.map_meaning.specs.declared.program.DrainUse.{DrainUse}
 use Rattle.map_meaning.specs.declared.program.InputUse.{InputUse}
 use Rattle.map_meaning.specs.declared.program.Operand.{Operand}
@@ -23,61 +18,27 @@ use Rattle.map_meaning.specs.declared.program.Operand.TheVariants.{Unused, Liter
 use Rattle.map_meaning.specs.declared.program.Operand.TheVariants as from
 use Rattle.map_meaning.specs.declared.program.Operation.{Operation}
 use Rattle.map_meaning.specs.declared.program.Program.{Program}
-use Rattle.map_meaning.specs.declared.program.Role.{Role}
-use Rattle.map_meaning.specs.declared.program.Role.TheVariants.{Grid, Stack, Table, Series}
-use Rattle.map_meaning.specs.Evaluation.{Done, operand_cell, operation_part, section_maps, with_map}
-use Rattle.map_meaning.specs.Limits.{most_inputs, most_steps}
-use Rattle.map_meaning.specs.Maps.{CellAt, IsMapOf, WholeMap, nth, step_cell}
-use Rattle.map_meaning.specs.Programs.{AreOneName, IsBelow, IsDrainUse, IsDueBy, IsFileOf, IsInput, IsOperation, IsOperationOf, IsStepOperation, IsWellFormed}
-use Rattle.map_meaning.specs.Programs.{file_role, is_carried, is_grid_role, is_initial, is_kept_map, is_last, is_mask, is_read_in_steps, is_read_later, is_series_role, is_table_role, is_written, kinds_of, operand_kind, operation_kind, stage_begin}
-use Rattle.map_meaning.specs.Rules.{no_series, no_table}
-use Rattle.map_meaning.specs.Scenes.{Scene, map_at_step, place_count}
-use Rattle.map_meaning.specs.Spans.{AreAscending, AreSteps, HasDrains, HasSeriesKind, IsInStage, IsSpan, IsTableOf, Knows, first_operation, kept_map, known_codes, scene_of, span_operations}
+use Rattle.map_meaning.specs.declared.program.Role.TheVariants.{Stack}
+use Rattle.map_meaning.specs.Evaluation.{Done, operation_part, section_maps, with_map}
+use Rattle.map_meaning.specs.Maps.{IsMapOf, WholeMap, nth}
+use Rattle.map_meaning.specs.Programs.{AreOneName, IsBelow, IsDrainUse, IsDueBy, IsWellFormed}
+use Rattle.map_meaning.specs.Programs.{is_carried, is_initial, is_last, is_mask, is_read_in_steps, is_read_later, is_written, operation_kind, stage_begin}
+use Rattle.map_meaning.specs.Scenes.{Scene, map_at_step}
+use Rattle.map_meaning.specs.Spans.{AreSteps, IsInStage, IsSpan, Knows, first_operation, kept_map, scene_of, span_operations}
 use Rattle.map_meaning.specs.Table.{goes_along_drains}
-use Rattle.map_meaning.proofs.WholeMaps.{IsReadFirst, IsReadNow, cell_in, codes_known, drain_use_of, input_item, input_there, map_whole, operation_of, read_first, read_now, scene_inputs, stage_length, step_operation_of, there}
+use Rattle.map_meaning.proofs.WholeMaps.{IsReadFirst, IsReadNow, drain_use_of, input_there, map_whole, scene_inputs, stage_length, there}
 use Rattle.map_meaning.proofs.Tabulated.{nth_tabulate, tabulate_count}
 use Rattle.plain_eval.specs.inside.Finished.{LetsGo}
-use Rattle.plain_eval.specs.inside.Held.{AreThere, HasDrainMap, HasFile, HasGrid, HasItsCells, HasKept, HasSeries, HasTable, IsHeld, IsOneOf, HasSoundOperands, IsThereAtStep, IsThereInitially, done_of, held_at, initial_done, or_empty, step_done}
+use Rattle.plain_eval.specs.inside.Held.{AreThere, IsHeld, IsThere, done_of, held_at, initial_done, or_empty, step_done}
+use Rattle.span_operands.specs.inside.Held.{HasDrainMap, HasItsCells, IsOneOf, HasSoundOperands}
 use Rattle.plain_eval.specs.inside.Readers.{AreLastReaders, IsNumberBelow, NamesBelow, ReadsBelow, reads}
-use Rattle.plain_eval.specs.inside.Sections.{is_own, scene_in, step_of}
-use Rattle.plain_eval.proofs.InputLemmas.{at_place}
+use Rattle.plain_eval.specs.inside.Sections.{is_own, scene_in}
+use Rattle.span_operands.specs.Made.{span_start}
+use Rattle.span_operands.proofs.Callers.{begins_later, both, drain_cells, grid_cells, grid_there, initial_operation, item_there, kept_as, kept_by_stages, kept_by_steps, kept_there, literal_cells, map_cells, one_of, stage_within, staged, step_operation, time_cells, unused_cells}
 use Rattle.plain_eval.proofs.ReaderLemmas.{read_later}
 use Rattle.plain_eval.proofs.Stages.{SameOutside, SameRead, own_number_from}
 
 -- ---- operations of a program
-
--- an item of a list is there
-item_there : {X : Type 0} (xs : List X) (n : ℕ) (d : X) → n < length xs → slice_get xs n ≡ Some (get_or xs n d)
-item_there [] n d below = absurd (omega arith)
-item_there (x ∷ xs) zero d below = refl
-item_there (x ∷ xs) (suc n) d below = item_there xs n d (omega arith)
-
--- an operation of a range of a list stands there in the list
-staged : (xs : List Operation) (first end n : ℕ) (d : Operation) → n < end - first → get_or (slice_range xs first end) n d ≡ get_or xs (first + n) d
-staged xs first end n d below = get_or-take (end - first) (drop first xs) n d below ∙ get_or-drop first xs n d
-
--- the operation with a number is one of `initial`
-initial_operation : (program : Program) (n : ℕ) (d : Operation) → IsWellFormed program → n < length program.initial → IsOperationOf program (IsReadFirst program n) (get_or program.initial n d).kept (get_or program.initial n d)
-initial_operation program n d formed below =
-    let o = get_or program.initial n d in
-    let here = item_there program.initial n d below in
-    let same : 0 + n ≡ n = omega arith in
-    read_first program n o here (subst (λ k. IsOperation program k o) same (operation_of program 0 n program.initial o formed.operations here))
-
--- the operation with a number is one of `dynamic`
-step_operation : (program : Program) (n : ℕ) (d : Operation) → IsWellFormed program → n < length program.dynamic → IsOperationOf program (IsReadNow program n) (get_or program.dynamic n d).kept (get_or program.dynamic n d)
-step_operation program n d formed below =
-    let o = get_or program.dynamic n d in
-    let here = item_there program.dynamic n d below in
-    let same : 0 + n ≡ n = omega arith in
-    read_now program n o here (subst (λ k. IsStepOperation program k o) same (step_operation_of program 0 n program.dynamic o formed.step_operations here))
-
--- a stage has operations as its numbers say
-stage_within : (program : Program) (first end n : ℕ) → IsInStage program first end → n < length (slice_range program.initial first end) → (n < end - first) × (first + n < end) × (first + n < length program.initial)
-stage_within program first end n is within =
-    let size = stage_length program.initial first end is.order is.there in
-    let there = is.there in
-    (omega arith, omega arith, omega arith)
 
 -- an operand of `initial` names no operation of the stage from the operation's own number on
 initial_below : (program : Program) (first end n m : ℕ) (operand : Operand) → n ≤ m → IsBelow program (first + n) operand → NamesBelow (span.Initial first end) m operand
@@ -161,128 +122,6 @@ nth_held [] k = refl
 nth_held (x ∷ held) zero = refl
 nth_held (x ∷ held) (suc k) = nth_held held k
 
--- an operand whose map is whole has its cells
-map_cells : (program : Program) (scene : Scene) (done : Done) (operand : Operand) (m : WholeMap) (found : Kind) → operand_kind program operand ≡ Some found → operand_cell scene done operand ≡ cell_at m → IsMapOf (place_count scene) found m → HasItsCells program scene done operand
-map_cells program scene done operand m found named is whole = record {
-  kind = λ used. (found, named);
-  cells = λ place kind asked below.
-      let same : found ≡ kind = (let both : Some found ≡ Some kind = sym named ∙ asked in cc) in
-      subst (λ k. IsCell k (operand_cell scene done operand place)) same (subst (λ (f : CellAt). IsCell found (f place)) (sym is) (cell_in (place_count scene) place found m whole below));
-}
-
--- one that is not used has none
-unused_cells : (program : Program) (scene : Scene) (done : Done) → HasItsCells program scene done Unused
-unused_cells program scene done = record { kind = λ used. absurd (cc); cells = λ place kind asked below. absurd (cc) }
-
--- a literal has its own
-literal_cells : (program : Program) (scene : Scene) (done : Done) (kind : Kind) (cell : Cell) → IsCell kind cell → HasItsCells program scene done (Literal kind cell)
-literal_cells program scene done kind cell is = record { kind = λ used. (kind, refl); cells = λ place k asked below. (let same : kind ≡ k = cc in subst (λ j. IsCell j cell) same is) }
-
--- the step is a scalar
-time_cells : (program : Program) (scene : Scene) (done : Done) → scene.step ≤ most_steps → HasItsCells program scene done Time
-time_cells program scene done few = record {
-  kind = λ used. (kinds.Scalar, refl);
-  cells = λ place k asked below. (let same : kinds.Scalar ≡ k = cc in subst (λ j. IsCell j (step_cell scene.step)) same (record { least = omega (arith, ints, few); greatest = omega (arith, ints, few) }));
-}
-
--- two tests that both hold
-both : (a b : Bool) → a ≡ true → b ≡ true → (a && b) ≡ true
-both true b first second = second
-both false b first second = absurd (cc)
-
--- a later stage begins no earlier
-begins_later : (drains : List DrainUse) (m n : ℕ) → m ≤ n → stage_begin drains m ≤ stage_begin drains n
-begins_later [] m n order = omega arith
-begins_later (d ∷ ds) m n order = by_tests (nat_le d.after m) (nat_le d.after n) refl refl (begins_later ds m n order)
-  where
-    by_tests : (a b : Bool) → nat_le d.after m ≡ a → nat_le d.after n ≡ b → stage_begin ds m ≤ stage_begin ds n → cond a (max d.after (stage_begin ds m)) (stage_begin ds m) ≤ cond b (max d.after (stage_begin ds n)) (stage_begin ds n)
-    by_tests true true before now rest = grind arith
-    by_tests true false before now rest = grind arith
-    by_tests false true before now rest = grind arith
-    by_tests false false before now rest = rest
-
--- an operation is kept that a step or a later stage reads
-kept_by_steps : (a b c d : Bool) → a ≡ true → (a || b || c || d) ≡ true
-kept_by_steps true b c d h = refl
-kept_by_steps false b c d h = absurd (cc)
-
-kept_by_stages : (a b c d : Bool) → d ≡ true → (a || b || c || d) ≡ true
-kept_by_stages true b c d h = refl
-kept_by_stages false true c d h = refl
-kept_by_stages false false true d h = refl
-kept_by_stages false false false d h = h
-
-module _ (program : Program) (s : Span) (known : Known) (formed : IsWellFormed program) (knows : Knows program s known) where
-  abbrev places : ℕ
-  places = known.rows * known.cols
-
-  some_places : 0 < places
-  some_places = positive known.rows known.cols knows.some_rows knows.some_cols
-    where
-      positive : (rows cols : ℕ) → 0 < rows → 0 < cols → 0 < rows * cols
-      positive zero cols r c = absurd (omega arith)
-      positive (suc rows) cols r c = grind arith
-
-  -- the number of an input that is there is no larger than the limit
-  few_inputs : (n : ℕ) → n < length program.inputs → n ≤ most_inputs
-  few_inputs n within = omega (arith, formed.few_inputs)
-
-  -- the grid of an input
-  grid_there : (n : ℕ) → IsInput program Grid n → HasGrid program known n
-  grid_there n is =
-      let found = input_there program Grid n is in
-      let of_role = ap is_grid_role found.2 in
-      let at = at_place is_grid_role [] (λ input m. IsMapOf places input.kind m) program.inputs known.maps n found.0 knows.maps found.1 of_role in
-      let whole = input_item is_grid_role [] (λ input m. IsMapOf places input.kind m) program.inputs known.maps n found.0 knows.maps found.1 of_role in
-      record { within = is.within; few = few_inputs n is.within; there = at.within; is = at.is; size = ap length at.is ∙ whole.count }
-
-  -- the table of an operation
-  table_there : (keys n : ℕ) → IsInput program (Table keys) n → HasTable program known n
-  table_there keys n is =
-      let found = input_there program (Table keys) n is in
-      let at = at_place is_table_role no_table IsTableOf program.inputs known.tables n found.0 knows.tables found.1 (ap is_table_role found.2) in
-      record { within = is.within; few = few_inputs n is.within; there = at.within; is = at.is }
-
-  -- the series of an operation
-  series_there : (n : ℕ) → IsInput program Series n → HasSeries program known n
-  series_there n is =
-      let found = input_there program Series n is in
-      let at = at_place is_series_role no_series (λ input series. HasSeriesKind input.kind series) program.inputs known.series n found.0 knows.series found.1 (ap is_series_role found.2) in
-      record { within = is.within; few = few_inputs n is.within; there = at.within; is = at.is }
-
-  -- what an operation looks its results up in
-  file_there : (asked : Option Role) (kind : Kind) (n : ℕ) → IsFileOf program asked kind n → HasFile program known asked n
-  file_there None kind n is = tt
-  file_there (Some Grid) kind n is = tt
-  file_there (Some Stack) kind n is = tt
-  file_there (Some (Table keys)) kind n is = table_there keys n is.input
-  file_there (Some Series) kind n is = series_there n is.input
-
-  -- a kept map
-  kept_there : (maps : List StepMap) (count k : ℕ) (kind : Kind) → k < count → IsMapOf places kind (kept_map maps k) → AreAscending maps → HasKept places maps count k
-  kept_there maps count k kind within whole order = record { within = within; order = order; some = (let size : length (kept_map maps k) ≡ places = whole.count in omega (arith, some_places)); size = whole.count }
-
-  -- an operation of `initial` is kept as its number says
-  kept_as : (k : ℕ) (o : Operation) → slice_get program.initial k ≡ Some o → o.kept ≡ is_kept_map program k
-  kept_as k o is =
-      let same : 0 + k ≡ k = omega arith in
-      let here : IsOperation program k o = subst (λ j. IsOperation program j o) same (operation_of program 0 k program.initial o formed.operations is) in
-      here.kept
-
-  -- the grid of an input has its cells
-  grid_cells : (step : ℕ) (done : Done) (n : ℕ) → IsInput program Grid n → HasItsCells program (scene_of program.inputs known step) done (Input n)
-  grid_cells step done n is =
-      let found = input_there program Grid n is in
-      let scene = scene_of program.inputs known step in
-      map_cells program scene done (Input n) (nth scene.inputs n) found.0.kind (ap (option_map (λ (i : InputUse). i.kind)) found.1) refl
-      (input_item is_grid_role [] (λ input m. IsMapOf places input.kind m) program.inputs known.maps n found.0 knows.maps found.1 (ap is_grid_role found.2))
-
-  -- so has a drain map
-  drain_cells : (step : ℕ) (done : Done) (k count : ℕ) (d : DrainUse) → done.drains ≡ known_codes known → slice_get program.drains k ≡ Some d → d.after ≤ count → HasDrains program count known → HasItsCells program (scene_of program.inputs known step) done (Drain k)
-  drain_cells step done k count d is here due has =
-      map_cells program (scene_of program.inputs known step) done (Drain k) (nth (known_codes known) k) kinds.Ldd (ap (option_map (λ (d : DrainUse). kinds.Ldd)) here) (ap (λ maps. cell_at (nth maps k)) is)
-      (codes_known program count known has k d here due)
-
 -- ---- what a stage of `initial` reads
 
 module _ (program : Program) (first end : ℕ) (known : Known) (formed : IsWellFormed program) (knows : Knows program (span.Initial first end) known) (is : IsInStage program first end) (n : ℕ) (to : first + n < end) (held : List (Option WholeMap)) (count : length held ≡ n) where
@@ -318,7 +157,7 @@ module _ (program : Program) (first end : ℕ) (known : Known) (formed : IsWellF
 
   -- the map of an operand is there, and has its cells
   abbrev ReadFirst : Operand → Type 0
-  ReadFirst operand = IsThereInitially program first known held operand × HasItsCells program first_scene first_done operand
+  ReadFirst operand = IsThere program stage known held operand × HasItsCells program first_scene first_done operand
 
   -- the maps that are held for it are whole
   abbrev HeldFirst : Operand → Type 0
@@ -329,7 +168,7 @@ module _ (program : Program) (first end : ℕ) (known : Known) (formed : IsWellF
   before_read k o here read before =
       let whole = knows.outside.initial k o here (earlier_kept k o here read before) in
       let front = tabulate (kept_map known.initial) first in (
-        record { before = λ less. kept_there program stage known formed knows known.initial first k o.kind less whole knows.outside.order; within = λ behind. absurd (omega (arith, before, behind)) },
+        ((refl, λ less. kept_there program stage known formed knows known.initial first k o.kind less whole knows.outside.order), λ behind. absurd (omega (arith, before, behind))),
         map_cells program first_scene first_done (Initial k) (kept_map known.initial k) o.kind (ap (option_map (λ (o : Operation). o.kind)) here)
             (ap cell_at (get_or_append_left front (map or_empty held) [] k (let size = tabulate_count (kept_map known.initial) first in omega (arith, size, before)) ∙ nth_tabulate (kept_map known.initial) first k before)) whole,
       )
@@ -342,16 +181,16 @@ module _ (program : Program) (first end : ℕ) (known : Known) (formed : IsWellF
       let there : slice_get program.initial (first + j) ≡ Some o = ap (slice_get program.initial) at ∙ here in
       let whole = held_for j o (own_number_from first k behind) (omega arith) there in
       let front = tabulate (kept_map known.initial) first in (
-        record { before = λ less. absurd (omega (arith, less, behind)); within = λ past. record { within = omega arith; is = held_whole (known.rows * known.cols) o.kind (held_at held j) whole } },
+        ((refl, λ less. absurd (omega (arith, less, behind))), λ past. record { within = omega arith; is = held_whole (known.rows * known.cols) o.kind (held_at held j) whole }),
         map_cells program first_scene first_done (Initial k) (or_empty (held_at held j)) o.kind (ap (option_map (λ (o : Operation). o.kind)) here)
             (ap cell_at (get_or-append_right front (map or_empty held) first k [] (tabulate_count (kept_map known.initial) first) behind ∙ nth_held held j)) (map_there (known.rows * known.cols) o.kind (held_at held j) whole),
       )
 
   initial_read : (operand : Operand) → IsReadFirst program (first + n) operand → HeldFirst operand → ReadFirst operand
-  initial_read Unused read held_for = (tt, unused_cells program first_scene first_done)
-  initial_read (Literal kind cell) read held_for = (tt, literal_cells program first_scene first_done kind cell read.below)
+  initial_read Unused read held_for = (((refl, tt), tt), unused_cells program first_scene first_done)
+  initial_read (Literal kind cell) read held_for = (((refl, tt), tt), literal_cells program first_scene first_done kind cell read.below)
   initial_read Time read held_for = absurd read.below
-  initial_read (Input k) read held_for = (grid_there program stage known formed knows k read.below, grid_cells program stage known formed knows 0 first_done k read.below)
+  initial_read (Input k) read held_for = (((refl, grid_there program stage known formed knows k read.below), tt), grid_cells program stage known formed knows 0 first_done k read.below)
   initial_read (from.Stack k) read held_for = absurd read.below
   initial_read (Initial k) read held_for =
       let below : k < first + n = read.below in
@@ -365,7 +204,7 @@ module _ (program : Program) (first end : ℕ) (known : Known) (formed : IsWellF
   initial_read (Drain k) read held_for =
       let here = there program.drains k read.below.within in
       let due = due_before k here.0 here.1 read.below in
-      (knows.outside.drains k here.0 here.1 due, drain_cells program stage known formed knows 0 first_done k first here.0 refl here.1 due knows.outside.drains)
+      (((refl, knows.outside.drains k here.0 here.1 due), tt), drain_cells program stage known formed knows 0 first_done k first here.0 refl here.1 due knows.outside.drains)
 
 -- ---- what a step reads
 
@@ -381,7 +220,7 @@ module _ (program : Program) (first last : ℕ) (known : Known) (formed : IsWell
 
   -- the map of an operand is there, and has its cells
   abbrev ReadNow : Operand → Type 0
-  ReadNow operand = IsThereAtStep program first known held operand × HasItsCells program now_scene now_done operand
+  ReadNow operand = IsThere program steps known held operand × HasItsCells program now_scene now_done operand
 
   -- the maps that are held for it are whole
   abbrev HeldNow : Operand → Type 0
@@ -395,10 +234,13 @@ module _ (program : Program) (first last : ℕ) (known : Known) (formed : IsWell
   -- the map of a name at the step before
   last_read : (d i : ℕ) (p o : Operation) → slice_get program.dynamic d ≡ Some p → slice_get program.initial i ≡ Some o → AreOneName program d i → is_read_in_steps program (is_initial i) ≡ true → is_carried program d ≡ true → ReadNow (Last d i)
   last_read d i p o here begun names read carried = (
-    record {
-      begun = λ one. kept_there program steps known formed knows known.initial (length program.initial) i o.kind names.of_initial (initial_kept i o begun read) knows.outside.order;
-      carried = λ later. kept_there program steps known formed knows known.last (length program.dynamic) d p.kind names.of_dynamic (knows.outside.carried (behind later) d p here carried) knows.outside.carried_order;
-    },
+    (
+      λ same. record {
+        begun = λ one. kept_there program steps known formed knows known.initial (length program.initial) i o.kind names.of_initial (initial_kept i o begun read) knows.outside.order;
+        carried = λ later. kept_there program steps known formed knows known.last (length program.dynamic) d p.kind names.of_dynamic (knows.outside.carried (behind later) d p here carried) knows.outside.carried_order;
+      },
+      tt,
+    ),
     map_cells program now_scene now_done (Last d i) (cond (first == 1) (kept_map known.initial i) (kept_map known.last d)) p.kind kind_is
         (ap (λ m. cell_at (cond (first == 1) m (nth (tabulate (kept_map known.last) (length program.dynamic)) d))) (nth_tabulate (kept_map known.initial) (length program.initial) i names.of_initial)
         ∙ ap (λ m. cell_at (cond (first == 1) (kept_map known.initial i) m)) (nth_tabulate (kept_map known.last) (length program.dynamic) d names.of_dynamic))
@@ -419,25 +261,25 @@ module _ (program : Program) (first last : ℕ) (known : Known) (formed : IsWell
       by_step false later = knows.outside.carried (behind later) d p here carried
 
   step_read : (operand : Operand) → IsReadNow program n operand → n ≤ length program.dynamic → HeldNow operand → ReadNow operand
-  step_read Unused read few held_for = (tt, unused_cells program now_scene now_done)
-  step_read (Literal kind cell) read few held_for = (tt, literal_cells program now_scene now_done kind cell read.below)
-  step_read Time read few held_for = (tt, time_cells program now_scene now_done (let a = is.order in let b = is.there in let c = formed.few_steps in omega arith))
-  step_read (Input k) read few held_for = (grid_there program steps known formed knows k read.below, grid_cells program steps known formed knows first now_done k read.below)
+  step_read Unused read few held_for = ((tt, tt), unused_cells program now_scene now_done)
+  step_read (Literal kind cell) read few held_for = ((tt, tt), literal_cells program now_scene now_done kind cell read.below)
+  step_read Time read few held_for = ((tt, tt), time_cells program now_scene now_done (let a = is.order in let b = is.there in let c = formed.few_steps in omega arith))
+  step_read (Input k) read few held_for = ((grid_there program steps known formed knows k read.below, tt), grid_cells program steps known formed knows first now_done k read.below)
   step_read (from.Stack k) read few held_for =
       let found = input_there program Stack k read.below in
       let whole = knows.outside.stacks k first found.0 found.1 found.2 (omega arith) is.order in
-      (whole.count, map_cells program now_scene now_done (from.Stack k) (map_at_step known.stacks first k) found.0.kind (ap (option_map (λ (i : InputUse). i.kind)) found.1) refl whole)
+      ((whole.count, tt), map_cells program now_scene now_done (from.Stack k) (map_at_step known.stacks first k) found.0.kind (ap (option_map (λ (i : InputUse). i.kind)) found.1) refl whole)
   step_read (Initial k) read few held_for =
       let here = there program.initial k read.below in
       let whole = initial_kept k here.0 here.1 (read.seen (is_initial k) (λ j. refl) (eq-eqb k k refl)) in (
-        kept_there program steps known formed knows known.initial (length program.initial) k here.0.kind read.below whole knows.outside.order,
+        (kept_there program steps known formed knows known.initial (length program.initial) k here.0.kind read.below whole knows.outside.order, tt),
         map_cells program now_scene now_done (Initial k) (kept_map known.initial k) here.0.kind (ap (option_map (λ (o : Operation). o.kind)) here.1) (ap cell_at (nth_tabulate (kept_map known.initial) (length program.initial) k read.below)) whole,
       )
   step_read (Now k) read few held_for =
       let below : k < n = read.below in
       let here = there program.dynamic k (omega arith) in
       let whole = held_for k here.0 (eq-eqb k k refl) below here.1 in (
-        record { within = omega arith; is = held_whole (known.rows * known.cols) here.0.kind (held_at held k) whole },
+        (tt, record { within = omega arith; is = held_whole (known.rows * known.cols) here.0.kind (held_at held k) whole }),
         map_cells program now_scene now_done (Now k) (or_empty (held_at held k)) here.0.kind (ap (option_map (λ (o : Operation). o.kind)) here.1) (ap cell_at (nth_held held k)) (map_there (known.rows * known.cols) here.0.kind (held_at held k) whole),
       )
   step_read (Last d i) read few held_for =
@@ -448,7 +290,7 @@ module _ (program : Program) (first last : ℕ) (known : Known) (formed : IsWell
       let here = there program.drains k read.below in
       let same : 0 + k ≡ k = omega arith in
       let formed_d : IsDrainUse program k here.0 = subst (λ j. IsDrainUse program j here.0) same (drain_use_of program 0 k program.drains here.0 formed.drains here.1) in
-      (knows.outside.drains k here.0 here.1 formed_d.within, drain_cells program steps known formed knows first now_done k (length program.initial) here.0 refl here.1 formed_d.within knows.outside.drains)
+      ((knows.outside.drains k here.0 here.1 formed_d.within, tt), drain_cells program steps known formed knows first now_done k (length program.initial) here.0 refl here.1 formed_d.within knows.outside.drains)
 
 -- where an operation reads a map, the map's last reader is not before it
 last_not_before : (s : Span) (operations : List Operation) (last : List ℕ) (n k : ℕ) (d : Operation) → AreLastReaders s operations last → n < length operations → k < length operations → reads s k (get_or operations n d) ≡ true → n ≤ get_or last k 0
@@ -475,19 +317,6 @@ pub record OperationIs (program : Program) (s : Span) (known : Known) (held : Li
   pub there : AreThere program s known held o
   pub sound : HasSoundOperands program (scene_in program s known) (done_of program s known held) o
   pub one : IsOneOf program known o
-
--- an operation whose operands have cells is one of the program's
-one_of : (program : Program) (s : Span) (known : Known) (scene : Scene) (done : Done) (o : Operation) → IsWellFormed program → Knows program s known → HasSoundOperands program scene done o → IsOneOf program known o
-one_of program s known scene done o formed knows is = record {
-  used = is.used;
-  a = is.a.kind;
-  b = is.b.kind;
-  c = is.c.kind;
-  d = is.d.kind;
-  drain = λ along. (is.drain along).kind;
-  kinds = is.kinds;
-  file = file_there program s known formed knows (file_role o.op (length (kinds_of program o))) o.kind o.file is.file;
-}
 
 -- the operation with a number of a span
 pub operation_is : (program : Program) (s : Span) (known : Known) (n : ℕ) (held : List (Option WholeMap)) (last : List ℕ) (d : Operation) → IsWellFormed program → IsSpan program s 1 → Knows program s known → n < length (span_operations program s) → length held ≡ n →
@@ -524,7 +353,7 @@ operation_is program (span.Initial first end) known n held last d formed is_span
         let b = read o.b is.b (λ k p named. held_for same k p (named_b s k o named)) in
         let c = read o.c is.c (λ k p named. held_for same k p (named_c s k o named)) in
         let e = read o.d is.d (λ k p named. held_for same k p (named_d s k o named)) in
-        let drain : goes_along_drains o.op ≡ true → HasDrainMap known o.drain × HasItsCells program (scene_of program.inputs known 0) (initial_done first known held) (Drain o.drain) = λ along. read (Drain o.drain) (is.drain along) (λ k p named. absurd (cc)) in
+        let drain : goes_along_drains o.op ≡ true → HasDrainMap known o.drain × HasItsCells program (scene_of program.inputs known 0) (initial_done first known held) (Drain o.drain) = λ along. (let r = read (Drain o.drain) (is.drain along) (λ k p named. absurd (cc)) in (r.0.0.1, r.1)) in
         let sound : HasSoundOperands program (scene_of program.inputs known 0) (initial_done first known held) o = record { a = a.1; b = b.1; c = c.1; d = e.1; used = is.used; kinds = is.kinds; drain = λ along. (drain along).1; window = is.window; file = is.file; kept = is.kept } in
         record {
           there = record { a = a.0; b = b.0; c = c.0; d = e.0; drain = λ along. (drain along).0 };
@@ -543,7 +372,7 @@ operation_is program (span.Steps first end) known n held last d formed is_span k
     let b = read o.b is.b (λ k p named. held_for k p (named_b s k o named)) in
     let c = read o.c is.c (λ k p named. held_for k p (named_c s k o named)) in
     let e = read o.d is.d (λ k p named. held_for k p (named_d s k o named)) in
-    let drain : goes_along_drains o.op ≡ true → HasDrainMap known o.drain × HasItsCells program (scene_of program.inputs known first) (step_done program known held) (Drain o.drain) = λ along. read (Drain o.drain) (is.drain along) (λ k p named. absurd (cc)) in
+    let drain : goes_along_drains o.op ≡ true → HasDrainMap known o.drain × HasItsCells program (scene_of program.inputs known first) (step_done program known held) (Drain o.drain) = λ along. (let r = read (Drain o.drain) (is.drain along) (λ k p named. absurd (cc)) in (r.0.0, r.1)) in
     let sound : HasSoundOperands program (scene_of program.inputs known first) (step_done program known held) o = record { a = a.1; b = b.1; c = c.1; d = e.1; used = is.used; kinds = is.kinds; drain = λ along. (drain along).1; window = is.window; file = is.file; kept = is.kept } in
     record {
       there = record { a = a.0; b = b.0; c = c.0; d = e.0; drain = λ along. (drain along).0 };
@@ -555,7 +384,7 @@ operation_is program (span.Steps first end) known n held last d formed is_span k
 pub whole_map : (program : Program) (s : Span) (known : Known) (held : List (Option WholeMap)) (o : Operation) → Knows program s known → HasSoundOperands program (scene_in program s known) (done_of program s known held) o →
     IsMapOf (known.rows * known.cols) o.kind (operation_part program (scene_in program s known) (done_of program s known held) o).cells
 whole_map program s known held o knows is =
-    map_whole program (scene_in program s known) (done_of program s known held) (scene_inputs program known (step_of s) knows.few knows.maps knows.tables knows.series) (HasItsCells program (scene_in program s known) (done_of program s known held))
+    map_whole program (scene_in program s known) (done_of program s known held) (scene_inputs program known (span_start s) knows.few knows.maps knows.tables knows.series) (HasItsCells program (scene_in program s known) (done_of program s known held))
     (record { kind = λ operand read used. read.kind used; cells = λ operand place kind read named below. read.cells place kind named below }) o o.kept is
 
 -- ---- behind an operation

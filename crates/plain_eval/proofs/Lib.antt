@@ -1,9 +1,8 @@
 pub mod Callers
+pub mod Agrees
 pub mod Parts
-pub mod Works
 pub mod Wholes
 pub mod ScopeLemmas
-pub mod InputLemmas
 pub mod ReaderLemmas
 pub mod Stages
 pub mod HeldLemmas

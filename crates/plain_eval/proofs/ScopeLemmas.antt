@@ -42,8 +42,9 @@ use Rattle.map_meaning.specs.Spans.{known_codes}
 use Rattle.map_meaning.specs.declared.known.Known.{Known}
 use Rattle.map_meaning.specs.declared.known.Span.{Span}
 use Rattle.map_meaning.specs.declared.known.Span.TheVariants as span
-use Rattle.plain_eval.specs.inside.Held.{HasItsCells, done_of}
-use Rattle.plain_eval.proofs.Wholes.{cell_at-tabulate, tabulate-cell_at}
+use Rattle.plain_eval.specs.inside.Held.{done_of}
+use Rattle.span_operands.specs.inside.Held.{HasItsCells}
+use Rattle.span_operands.proofs.Callers.{cell_at-tabulate, tabulate-cell_at}
 
 -- the drain maps that are done are those that are known
 pub done_drains : (program : Program) (s : Span) (known : Known) (held : List (Option WholeMap)) → (done_of program s known held).drains ≡ known_codes known

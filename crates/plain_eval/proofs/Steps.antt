@@ -14,9 +14,11 @@ use Rattle.map_meaning.specs.Evaluation.{Done, operation_value, with_map}
 use Rattle.map_meaning.specs.Maps.{IsMapOf, WholeMap}
 use Rattle.map_meaning.specs.Scenes.{Scene}
 use Rattle.map_meaning.specs.Spans.{Knows, first_operation, span_operations}
-use Rattle.plain_eval.specs.inside.Sections.{scene_in, step_of}
+use Rattle.plain_eval.specs.inside.Sections.{scene_in}
+use Rattle.span_operands.specs.Made.{span_start}
 use Rattle.plain_eval.specs.inside.Finished.{LetsGo, with_kept}
-use Rattle.plain_eval.specs.inside.Held.{HasSoundOperands, done_of, held_at}
+use Rattle.plain_eval.specs.inside.Held.{done_of, held_at}
+use Rattle.span_operands.specs.inside.Held.{HasSoundOperands}
 use Rattle.plain_eval.specs.inside.Readers.{AreLastReaders}
 use Rattle.plain_eval.proofs.HeldLemmas.{AreWhole, IsStep, step_held, step_length, step_only, step_same, whole_map}
 use Rattle.plain_eval.proofs.ReaderLemmas.{last_one_reads}
@@ -61,7 +63,7 @@ module _ (program : Program) (s : Span) (known : Known) (operations : List Opera
         ∙ ap (λ r. told_next r (λ m. told_from program scene s (with_kept scene.step kept number (get_or operations n d) m) (number + 1) (with_map s (done_of program s known before) m) (drop (n + 1) own))) (value_is ∙ is))
 
     -- one that has a map leads on
-    pub next_told : (kept more : List StepMap) (m : WholeMap) (last : List ℕ) (between after : List (Option WholeMap)) (told : StageEnd) (step at : ℕ) → step ≡ step_of s → at ≡ number → r ≡ Ok m → AreLastReaders s operations last → IsStep s last n (get_or operations n d) m before between after →
+    pub next_told : (kept more : List StepMap) (m : WholeMap) (last : List ℕ) (between after : List (Option WholeMap)) (told : StageEnd) (step at : ℕ) → step ≡ span_start s → at ≡ number → r ≡ Ok m → AreLastReaders s operations last → IsStep s last n (get_or operations n d) m before between after →
         more ≡ with_kept step kept at (get_or operations n d) m → told_from program scene s kept number (done_of program s known before) (drop n own) ≡ told → told_from program scene s more (first_operation s + (n + 1)) (done_of program s known after) (drop (n + 1) own) ≡ told
     next_told kept more m last between after told at_step at is_step is_number is are step keep e =
         let o = get_or operations n d in

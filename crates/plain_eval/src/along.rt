@@ -11,21 +11,20 @@ ghost use Rattle.tile_map.specs.Args.{SpansPlaces, arg_cell};
 ghost use Rattle.tile_map.specs.Cuts.{cell_at};
 ghost use Rattle.tile_map.specs.Parts.{part_of};
 ghost use Rattle.map_meaning.specs.Evaluation.{operation_part};
-ghost use Rattle.plain_eval.specs.inside.Held.{AreThere, IsOneOf, HasSoundOperands, done_of};
-ghost use Rattle.plain_eval.specs.inside.Scopes.{IsScopeOf};
+ghost use Rattle.plain_eval.specs.inside.Held.{AreThere, done_of};
+ghost use Rattle.span_operands.specs.inside.Held.{IsOneOf, HasSoundOperands};
+ghost use Rattle.span_operands.specs.inside.Scopes.{IsScopeOf};
 ghost use Rattle.plain_eval.specs.inside.Sections.{scene_in};
 ghost use Rattle.text_base.specs.Limits.{most_cells};
-ghost use Rattle.plain_eval.specs.declared.scope.Scope.TheVariants.{Near, Transport};
+ghost use Rattle.span_operands.specs.declared.scope.Scope.TheVariants.{Near, Transport};
 
 use crate::arg::arg;
-use crate::drains::drain_map;
-use crate::sheet::{made, sheet};
-use crate::work::kind_or_scalar;
 use cell_values::Cell;
 use drain_meaning::{Drain, FlowOp, NearOp};
 use drain_ops::near_part;
 use flow_task::FlowKit;
 use map_meaning::{Arg, Known, Map, Operation, Part, Program, Span};
+use span_operands::{drain_map, kind_or_scalar, made, sheet};
 use std::alloc::{AllocError, Global};
 use tile_map::Rect;
 

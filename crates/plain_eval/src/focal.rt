@@ -4,17 +4,18 @@ ghost use Rattle.std.specs.Prelude.{◌≡◌, ◌<◌, ◌≤◌, ◌*◌, leng
 ghost use Rattle.region_meaning.specs.Windows.{longest_reach, window_outcome};
 ghost use Rattle.tile_map.specs.Parts.{part_of};
 ghost use Rattle.map_meaning.specs.Evaluation.{operation_part};
-ghost use Rattle.plain_eval.specs.inside.Held.{AreThere, HasSoundOperands, done_of};
-ghost use Rattle.plain_eval.specs.inside.Scopes.{IsScopeOf};
+ghost use Rattle.plain_eval.specs.inside.Held.{AreThere, done_of};
+ghost use Rattle.span_operands.specs.inside.Held.{HasSoundOperands};
+ghost use Rattle.span_operands.specs.inside.Scopes.{IsScopeOf};
 ghost use Rattle.plain_eval.specs.inside.Sections.{scene_in};
 ghost use Rattle.text_base.specs.Limits.{most_cells};
-ghost use Rattle.plain_eval.specs.declared.scope.Scope.TheVariants.{Focal};
+ghost use Rattle.span_operands.specs.declared.scope.Scope.TheVariants.{Focal};
 
 use crate::arg::arg;
-use crate::sheet::{made, sheet};
 use cell_values::Cell;
 use map_meaning::{Known, Map, Operation, Part, Program, Span};
 use region_meaning::WindowOp;
+use span_operands::{made, sheet};
 use std::alloc::{AllocError, Global};
 use tile_map::Rect;
 use window_ops::window_part;

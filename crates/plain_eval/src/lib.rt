@@ -6,21 +6,16 @@
 
 mod along;
 mod arg;
-mod drains;
 mod focal;
 mod held;
-mod inputs;
 mod laws;
 mod local;
 mod part;
 mod readers;
 mod runner;
-mod scope;
-mod sheet;
 mod site;
 mod stage;
 mod value;
-mod work;
 mod zonal;
 
 pub use laws::the_base_kit_knows_all_words;

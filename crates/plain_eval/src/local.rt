@@ -2,17 +2,17 @@
 
 ghost use Rattle.std.specs.Prelude.{◌≡◌, ◌≤◌, ◌*◌, IfOk};
 ghost use Rattle.map_meaning.specs.Evaluation.{operation_part};
-ghost use Rattle.plain_eval.specs.inside.Held.{AreThere, IsOneOf, HasSoundOperands, done_of};
-ghost use Rattle.plain_eval.specs.inside.Scopes.{IsScopeOf};
+ghost use Rattle.plain_eval.specs.inside.Held.{AreThere, done_of};
+ghost use Rattle.span_operands.specs.inside.Held.{IsOneOf, HasSoundOperands};
+ghost use Rattle.span_operands.specs.inside.Scopes.{IsScopeOf};
 ghost use Rattle.plain_eval.specs.inside.Sections.{scene_in};
 ghost use Rattle.text_base.specs.Limits.{most_cells};
-ghost use Rattle.plain_eval.specs.declared.scope.Scope.TheVariants.{Local};
+ghost use Rattle.span_operands.specs.declared.scope.Scope.TheVariants.{Local};
 
 use crate::arg::arg;
-use crate::site::step_of;
-use crate::work::work;
 use cell_ops::cell_part;
 use map_meaning::{Known, Map, Operation, Part, Program, Span};
+use span_operands::{span_start, work};
 use std::alloc::{AllocError, Global};
 
 /// The map of a local operation with its first Over.
@@ -34,7 +34,7 @@ pub fn local(
     let places = known.rows as usize * known.cols as usize;
     cell_part(
         alloc,
-        work(program, operation, step_of(span), known),
+        work(program, operation, span_start(span), known),
         places,
         arg(operation.a, program, span, known, held),
         arg(operation.b, program, span, known, held),

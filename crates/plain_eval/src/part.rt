@@ -4,17 +4,18 @@ ghost use Rattle.std.specs.Prelude.{◌≡◌, ◌<◌, ◌≤◌, ◌*◌, IfOk
 ghost use Rattle.flow_task.specs.Kits.{KnowsAll};
 ghost use Rattle.map_meaning.specs.Evaluation.{operation_part};
 ghost use Rattle.map_meaning.specs.Table.{is_transport};
-ghost use Rattle.plain_eval.specs.inside.Held.{AreThere, IsOneOf, HasSoundOperands, done_of};
+ghost use Rattle.plain_eval.specs.inside.Held.{AreThere, done_of};
+ghost use Rattle.span_operands.specs.inside.Held.{IsOneOf, HasSoundOperands};
 ghost use Rattle.plain_eval.specs.inside.Sections.{scene_in};
 ghost use Rattle.text_base.specs.Limits.{most_cells};
 
 use crate::along::{near, transport};
 use crate::focal::focal;
 use crate::local::local;
-use crate::scope::{Scope, scope_of};
 use crate::zonal::{global, zonal, zone_size};
 use flow_task::FlowKit;
 use map_meaning::{Known, Map, Operation, Part, Program, Span};
+use span_operands::{Scope, scope_of};
 use std::alloc::{AllocError, Global};
 
 /// The map of an operation with its first Over.

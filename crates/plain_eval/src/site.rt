@@ -2,19 +2,9 @@
 
 ghost use Rattle.std.specs.Prelude.{◌≡◌};
 ghost use Rattle.map_meaning.specs.Spans.{IsSpan, first_operation, span_operations};
-ghost use Rattle.plain_eval.specs.inside.Sections.{initial_number, now_number, number_from, own_number, step_of};
+ghost use Rattle.plain_eval.specs.inside.Sections.{initial_number, now_number, number_from, own_number};
 
 use map_meaning::{Operand, Operation, Program, Span};
-
-/// The step of a span; 0 for the section `initial`.
-pub fn step_of(span: Span) -> u32
-    ensures { result ≡ step_of span }
-{
-    match span {
-        Span::Initial { .. } => 0,
-        Span::Steps { first, .. } => first,
-    }
-}
 
 /// The number of a span's first operation.
 pub fn first_operation(span: Span) -> u32

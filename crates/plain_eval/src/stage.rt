@@ -6,10 +6,11 @@ ghost use Rattle.map_meaning.specs.Table.{is_transport};
 
 use crate::held::{hold, keep, let_go_of_operands};
 use crate::readers::last_readers;
-use crate::site::{first_operation, span_operations, step_of};
+use crate::site::{first_operation, span_operations};
 use crate::value::value;
 use flow_task::FlowKit;
 use map_meaning::{Known, Program, Span, StageEnd};
+use span_operands::span_start;
 use sqlite_items::Items;
 use std::alloc::{AllocError, Global};
 
@@ -27,7 +28,7 @@ pub fn stage<K: FlowKit>(
     requires known { Knows program.now span known.now }
     ensures { IfOk result (λ end. end ≡ stage_of program.now span known.now) }
 {
-    let step = step_of(span);
+    let step = span_start(span);
     let first = first_operation(span);
     let operations = span_operations(program, span);
     let last = last_readers(alloc, span, operations)?;

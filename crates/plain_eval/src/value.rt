@@ -4,14 +4,15 @@ ghost use Rattle.flow_task.specs.Kits.{KnowsAll};
 ghost use Rattle.map_meaning.specs.Overs.{over_at as five_numbers};
 ghost use Rattle.map_meaning.specs.Table.{is_transport};
 ghost use Rattle.map_meaning.specs.declared.program.Program.{Program as TheProgram};
-ghost use Rattle.plain_eval.specs.inside.Held.{AreThere, IsOneOf, HasSoundOperands, done_of};
+ghost use Rattle.plain_eval.specs.inside.Held.{AreThere, done_of};
+ghost use Rattle.span_operands.specs.inside.Held.{IsOneOf, HasSoundOperands};
 ghost use Rattle.plain_eval.specs.inside.Sections.{scene_in};
 ghost use Rattle.text_base.specs.Limits.{most_cells};
 
 use crate::part::part;
-use crate::site::step_of;
 use flow_task::FlowKit;
 use map_meaning::{Known, Map, Operation, OverAt, Part, Program, Span};
+use span_operands::span_start;
 use std::alloc::{AllocError, Global};
 
 // The five numbers of an Over at this place.
@@ -21,7 +22,7 @@ fn over_at(span: Span, known: &Known, operation: Operation, place: u32) -> OverA
     ensures { (program : TheProgram) → result ≡ five_numbers (scene_in program span known.now) operation.statement operation.number place }
 {
     OverAt {
-        step: step_of(span),
+        step: span_start(span),
         statement: operation.statement,
         operation: operation.number,
         row: place / known.cols + 1,

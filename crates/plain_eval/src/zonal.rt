@@ -6,11 +6,12 @@ ghost use Rattle.region_meaning.specs.AreaResults.{area_outcome};
 ghost use Rattle.tile_map.specs.Args.{SpansPlaces, arg_cell};
 ghost use Rattle.tile_map.specs.Parts.{part_of};
 ghost use Rattle.map_meaning.specs.Evaluation.{operation_part};
-ghost use Rattle.plain_eval.specs.inside.Held.{AreThere, HasSoundOperands, done_of};
-ghost use Rattle.plain_eval.specs.inside.Scopes.{IsScopeOf};
+ghost use Rattle.plain_eval.specs.inside.Held.{AreThere, done_of};
+ghost use Rattle.span_operands.specs.inside.Held.{HasSoundOperands};
+ghost use Rattle.span_operands.specs.inside.Scopes.{IsScopeOf};
 ghost use Rattle.plain_eval.specs.inside.Sections.{scene_in};
 ghost use Rattle.text_base.specs.Limits.{most_cells};
-ghost use Rattle.plain_eval.specs.declared.scope.Scope.TheVariants.{Zonal, ZoneSize, Global as TheGlobal};
+ghost use Rattle.span_operands.specs.declared.scope.Scope.TheVariants.{Zonal, ZoneSize, Global as TheGlobal};
 
 use crate::arg::arg;
 use area_ops::Partial;

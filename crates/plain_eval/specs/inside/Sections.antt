@@ -1,4 +1,4 @@
--- What a span evaluates: its step, and the operands that are its own maps, which count from its first operation.
+-- What a span evaluates: its scene, and the operands that are its own maps, which count from its first operation.
 use Rattle.std.specs.Prelude.{ℕ, ◌-◌, ◌==◌, nat_le, Bool, false, Option, Some, None, if◌then◌else◌}
 use Rattle.map_meaning.specs.declared.known.Known.{Known}
 use Rattle.map_meaning.specs.declared.known.Span.{Span}
@@ -8,15 +8,11 @@ use Rattle.map_meaning.specs.declared.program.Operand.TheVariants.{Initial, Now,
 use Rattle.map_meaning.specs.declared.program.Program.{Program}
 use Rattle.map_meaning.specs.Scenes.{Scene}
 use Rattle.map_meaning.specs.Spans.{scene_of}
-
--- the step of a span; 0 for the section `initial`
-abbrev pub step_of : Span → ℕ
-step_of (span.Initial first end) = 0
-step_of (span.Steps first last) = first
+use Rattle.span_operands.specs.Made.{span_start}
 
 -- the scene of a span
 abbrev pub scene_in : Program → Span → Known → Scene
-scene_in program s known = scene_of program.inputs known (step_of s)
+scene_in program s known = scene_of program.inputs known (span_start s)
 
 -- the number that the operation k has in a stage which begins at first, if it does not stand before it
 abbrev pub number_from : ℕ → ℕ → Option ℕ

@@ -12,7 +12,7 @@ use Rattle.map_meaning.specs.Maps.{CellAt, WholeMap, nth}
 use Rattle.plain_eval.specs.inside.Held.{done_of}
 use Rattle.plain_eval.specs.inside.Sections.{scene_in}
 use Rattle.plain_eval.proofs.ScopeLemmas.{done_drains, drain_is, near_means, operand_scalars}
-use Rattle.plain_eval.proofs.Wholes.{tabulate-scalars}
+use Rattle.span_operands.proofs.Callers.{tabulate-scalars}
 use Rattle.plain_eval.proofs.along.near.Goals as goal
 
 pub whole_near-requires-clause-cells : goal.whole_near-requires-clause-cells

@@ -12,7 +12,7 @@ use Rattle.map_meaning.specs.Programs.{kinds_of}
 use Rattle.plain_eval.specs.inside.Held.{done_of}
 use Rattle.plain_eval.specs.inside.Sections.{scene_in}
 use Rattle.plain_eval.proofs.ScopeLemmas.{arg_scalars, done_drains, drain_is, has_word, operand_scalars, transport_means}
-use Rattle.plain_eval.proofs.Works.{carried_kind}
+use Rattle.span_operands.proofs.Callers.{carried_kind}
 use Rattle.plain_eval.proofs.along.transport.Goals as goal
 
 pub whole-requires-clause-known : goal.whole-requires-clause-known

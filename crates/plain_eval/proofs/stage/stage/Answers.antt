@@ -86,7 +86,7 @@ loop-n-preserved g c =
     let sound = (operation_is program s known c.loop-n.n c.loop-n.held last _ c.requires.program c.requires.span c.requires.known within c.loop-n.invariant.count are c.loop-n.invariant.held).sound in
     let step = stepped s _ last c.deref.result.now c.deref-in-loop-n.result.now c.loop-n.n c.in-Ok.map c.loop-n.held c.let_go_of_operands.new.held c.hold.new.held c.deref.ensures.value c.deref-in-loop-n.ensures.value c.loop-n.invariant.count c.let_go_of_operands.ensures c.in_ok-hold.ensures in
     record {
-      told = next_told program s known operations _ c.loop-n.n c.span_operations-operations.ensures c.loop-n-test.true c.loop-n.held c.as_slice.result.now c.in_ok-map.field-0 c.as_slice.ensures c.in_ok-map.ensures c.loop-n.kept c.keep.new.kept c.in-Ok.map last c.let_go_of_operands.new.held c.hold.new.held _ c.step_of-step.result (c.first_operation-first.result + c.loop-n.n) c.step_of-step.ensures (ap (λ (k : ℕ). k + c.loop-n.n) c.first_operation-first.ensures) c.in-Ok.is c.in_ok-last.ensures step c.in_ok-keep.ensures c.loop-n.invariant.told;
+      told = next_told program s known operations _ c.loop-n.n c.span_operations-operations.ensures c.loop-n-test.true c.loop-n.held c.as_slice.result.now c.in_ok-map.field-0 c.as_slice.ensures c.in_ok-map.ensures c.loop-n.kept c.keep.new.kept c.in-Ok.map last c.let_go_of_operands.new.held c.hold.new.held _ c.span_start-step.result (c.first_operation-first.result + c.loop-n.n) c.span_start-step.ensures (ap (λ (k : ℕ). k + c.loop-n.n) c.first_operation-first.ensures) c.in-Ok.is c.in_ok-last.ensures step c.in_ok-keep.ensures c.loop-n.invariant.told;
       count = step_count s last c.loop-n.n _ c.in-Ok.map c.loop-n.held c.let_go_of_operands.new.held c.hold.new.held step;
       held = next_held program s known operations _ c.loop-n.n c.span_operations-operations.ensures c.loop-n-test.true c.loop-n.held c.as_slice.result.now c.in_ok-map.field-0 c.as_slice.ensures c.in_ok-map.ensures c.in-Ok.map last c.let_go_of_operands.new.held c.hold.new.held c.requires.known c.in-Ok.is step sound c.loop-n.invariant.held;
       only = next_only s operations _ last c.loop-n.n c.in-Ok.map c.loop-n.held c.let_go_of_operands.new.held c.hold.new.held c.loop-n-test.true c.in_ok-last.ensures step c.loop-n.invariant.only;

@@ -1,0 +1,5 @@
+pub mod Callers
+pub mod InputLemmas
+pub mod KnownLemmas
+pub mod Works
+pub mod Tables
