@@ -5,13 +5,13 @@ use Rattle.lue_run.specs.declared.ended.Ended.{Ended}
 use Rattle.lue_run.specs.declared.ended.Ended.TheVariants as top
 use Rattle.lue_run.specs.Answers.{Call, IsComplete, IsShown, IsUsage, IsVerdict, IsVerdictKind, KeepsCounts, LineIsWritten, NoFault}
 use Rattle.lue_run.specs.Lines.{status_of}
-use Rattle.lue_run.specs.Words.{command_of}
 use Rattle.dusterindigo.specs.Statuses.{AnswersWith, IsStatus}
 
 -- no answer but usage has the status of usage
-usage_alone : (call : Call) (answer : Ended) → IsShown call answer → status_of answer ≡ status_of top.Usage → command_of call.words ≡ None
+usage_alone : (call : Call) (answer : Ended) → IsShown call answer → status_of answer ≡ status_of top.Usage → call.command ≡ None
 usage_alone call top.Usage shown same = shown
 usage_alone call (top.Done files steps) shown same = absurd (omega (arith, same))
+usage_alone call (top.Made files) shown same = absurd (omega (arith, same))
 usage_alone call (top.Missing name) shown same = absurd (omega (arith, same))
 usage_alone call (top.TooLong name) shown same = absurd (omega (arith, same))
 usage_alone call (top.Script fault) shown same = absurd (omega (arith, same))
@@ -37,7 +37,7 @@ refused_status call answer status is usage = by usage.said
 -- the status of an answer of which all this is said
 pub ends_with : (call : Call) (answer : Ended) (status : ℕ) → status ≡ status_of answer → (IsVerdictKind answer → IsVerdict call answer) →
     IsShown call answer → LineIsWritten call answer → (NoFault call → IsComplete call answer) →
-    (command_of call.words ≡ None → IsUsage call answer) → KeepsCounts call → AnswersWith call status
+    (call.command ≡ None → IsUsage call answer) → KeepsCounts call → AnswersWith call status
 ends_with call answer status is verdict shown line complete usage counts = record {
   answer = answer;
   is_its = is;

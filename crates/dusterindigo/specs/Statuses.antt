@@ -4,7 +4,6 @@ use Rattle.lue_run.specs.declared.ended.Ended.{Ended}
 use Rattle.lue_run.specs.declared.ended.Ended.TheVariants.{Memory, OutFault, Usage}
 use Rattle.lue_run.specs.Answers.{Call, IsComplete, IsShown, IsUsage, IsVerdict, IsVerdictKind, KeepsCounts, LineIsWritten, NoFault}
 use Rattle.lue_run.specs.Lines.{status_of}
-use Rattle.lue_run.specs.Words.{command_of}
 
 -- The status is that of an answer which this call may give: for it stands all that is said of a call of `lue_plain`. Where
 -- the words are no command it is that of usage, of a line that could not be written in place of usage, or of want of memory;
@@ -16,11 +15,11 @@ pub record AnswersWith (call : Call) (status : ℕ) : Type 0 where
   pub shown : IsShown call answer
   pub line : LineIsWritten call answer
   pub complete : NoFault call → IsComplete call answer
-  pub usage : command_of call.words ≡ None → IsUsage call answer
+  pub usage : call.command ≡ None → IsUsage call answer
   pub counts : KeepsCounts call
-  pub refused : command_of call.words ≡ None
+  pub refused : call.command ≡ None
       → (status ≡ status_of Usage) ⊎ (status ≡ status_of (OutFault (status_of Usage))) ⊎ (status ≡ status_of Memory)
-  pub only : status ≡ status_of Usage → command_of call.words ≡ None
+  pub only : status ≡ status_of Usage → call.command ≡ None
 
 -- the status is that of an answer, or the one where the words cannot be had
 abbrev pub IsStatus : ℕ → Type 0

@@ -8,6 +8,7 @@ ghost use Rattle.std.specs.String.{string_bytes};
 ghost use Rattle.std.specs.Vec.Iter.{into_iter_steps};
 ghost use Rattle.lue_run.specs.Answers.{call_of};
 ghost use Rattle.lue_run.specs.Lines.{status_of};
+ghost use Rattle.lue_run.specs.Words.{plain_command};
 ghost use Rattle.lue_run.specs.declared.ended.Ended.TheVariants.{Memory};
 ghost use Rattle.dusterindigo.specs.Statuses.{AnswersWith, IsStatus};
 
@@ -49,7 +50,7 @@ fn without_words(kind: ErrorKind) -> u8
 
 // Does what the words ask for, in the folder, and gives the status of the answer.
 fn run_words<F: Folder, S: Sink>(alloc: Global, words: &[Word], folder: &mut F, out: &mut S) -> u8
-    ensures { AnswersWith (call_of words.now (F.state folder.old) (F.state folder.new) (S.state out.old) (S.state out.new)) result }
+    ensures { AnswersWith (call_of (plain_command words.now) (F.state folder.old) (F.state folder.new) (S.state out.old) (S.state out.new)) result }
 {
     let answer = lue_plain(alloc, words, folder, out);
     status(&answer)
@@ -60,7 +61,7 @@ fn run_words<F: Folder, S: Sink>(alloc: Global, words: &[Word], folder: &mut F, 
 fn run_texts<F: Folder, S: Sink>(alloc: Global, args: Args, folder: &mut F, out: &mut S) -> u8
     ensures { ((result ≡ status_of Memory) × (F.state folder.new ≡ F.state folder.old) × (S.state out.new ≡ S.state out.old))
         ⊎ ((texts : _) × Drains into_iter_steps args texts
-        × AnswersWith (call_of (drop 1 (map string_bytes texts)) (F.state folder.old) (F.state folder.new) (S.state out.old) (S.state out.new)) result) }
+        × AnswersWith (call_of (plain_command (drop 1 (map string_bytes texts))) (F.state folder.old) (F.state folder.new) (S.state out.old) (S.state out.new)) result) }
 {
     match words_of(alloc, args) {
         Ok(words) => run_words(alloc, &words, folder, out),

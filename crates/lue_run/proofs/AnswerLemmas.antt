@@ -1,7 +1,7 @@
 -- What a call answers, from what it came to and what it told of this.
 use Rattle.std.proofs.Common.{◌⊎◌, ℕ, inl, inr, ◌≡◌, refl, sym, ap, subst, ◌∙◌, arith}
-use Rattle.std.specs.Prelude.{None}
-use Rattle.outside_io.specs.State.{Rose, WroteFront}
+use Rattle.std.specs.Prelude.{Option, None}
+use Rattle.outside_io.specs.State.{FolderState, Rose, SinkState, WroteFront}
 use Rattle.outside_io.specs.Counts.{raised}
 use Rattle.outside_io.specs.Causes.{RunOutcome, CameTo, CutOff, ReadFault, WriteFault, NoMemory}
 use Rattle.outside_io.specs.Met.{Follows}
@@ -9,9 +9,9 @@ use Rattle.outside_io.proofs.Callers.{if_told, meets_forgotten}
 use Rattle.run_session.specs.Ends.{RanToEnd, Missing, TooLong, Script, Input, TooManyTasks, Overflow}
 use Rattle.lue_run.specs.declared.ended.Ended.{Ended}
 use Rattle.lue_run.specs.declared.ended.Ended.TheVariants as top
-use Rattle.lue_run.specs.Words.{command_of}
-use Rattle.lue_run.specs.Ends.{CourseEnd, Usage, OfScript, why_of, end_answer, answer_for}
+use Rattle.lue_run.specs.Ends.{CourseEnd, Usage, OfScript, OfModel, why_of, end_answer, answer_for}
 use Rattle.lue_run.specs.Lines.{line_of, status_of}
+use Rattle.lue_run.specs.Words.{Command}
 use Rattle.lue_run.specs.Course.{course}
 use Rattle.lue_run.specs.Answers.{Call, CameOut, HasLine, IsComplete, IsUsage, IsShown, IsVerdict, IsVerdictKind, IsVerdictOver, LineIsWritten, KeepsCounts, NoFault, WroteWhole}
 use Rattle.lue_run.specs.inside.Top.{AnswersSo, Tells}
@@ -27,7 +27,7 @@ module _ (call : Call) where
   verdict_at : (end : CourseEnd) → CameOut call (CameTo end) → IsVerdict call (end_answer end)
   verdict_at end m = record {
     faults = m.faults;
-    over = if_told call.before.holds (λ files. Follows (course call.words files) files call.before call.after (CameTo end)) (IsVerdictOver call (end_answer end))
+    over = if_told call.before.holds (λ files. Follows (course call.command files) files call.before call.after (CameTo end)) (IsVerdictOver call (end_answer end))
         (λ files f. record { answer = ap end_answer f.0; puts = f.1.puts; holds = f.1.holds }) m.follows;
   }
 
@@ -37,7 +37,7 @@ module _ (call : Call) where
   verdict_of (CutOff (WriteFault name)) m kind = absurd kind
   verdict_of (CutOff NoMemory) m kind = absurd kind
 
-  shown_of : (outcome : RunOutcome CourseEnd) → (answer_for outcome ≡ top.Usage → command_of call.words ≡ None) → CameOut call outcome → IsShown call (answer_for outcome)
+  shown_of : (outcome : RunOutcome CourseEnd) → (answer_for outcome ≡ top.Usage → call.command ≡ None) → CameOut call outcome → IsShown call (answer_for outcome)
   shown_of (CameTo Usage) usage m = usage refl
   shown_of (CameTo (OfScript (RanToEnd files steps))) usage m = m.cause
   shown_of (CameTo (OfScript (Missing name))) usage m = m.cause
@@ -46,6 +46,7 @@ module _ (call : Call) where
   shown_of (CameTo (OfScript (Input name kind))) usage m = m.cause
   shown_of (CameTo (OfScript (TooManyTasks count))) usage m = m.cause
   shown_of (CameTo (OfScript (Overflow at))) usage m = m.cause
+  shown_of (CameTo (OfModel files)) usage m = m.cause
   shown_of (CutOff (ReadFault name)) usage m = m
   shown_of (CutOff (WriteFault name)) usage m = m
   shown_of (CutOff NoMemory) usage m = m
@@ -62,7 +63,7 @@ module _ (call : Call) where
 
 -- ---- by what was told of it
 
-module _ (call : Call) (answer : Ended) (a : AnswersSo call.words call.before call.after call.sink_before call.sink_after answer) where
+module _ (call : Call) (answer : Ended) (a : AnswersSo call.command call.before call.after call.sink_before call.sink_after answer) where
   said : (answer ≡ a.end) → answer ≡ answer_for a.comes.outcome
   said is = is ∙ a.comes.is
 
@@ -79,7 +80,7 @@ module _ (call : Call) (answer : Ended) (a : AnswersSo call.words call.before ca
     where
       by : Tells a.end call.sink_before call.sink_after answer → IsShown call answer
       by (inl t) = subst (IsShown call) (sym (said t.0)) (shown_of call a.comes.outcome (λ is. a.comes.usage (a.comes.is ∙ is)) a.comes.came)
-      by (inr (inl t)) = subst (IsShown call) (sym t.0) (meets_forgotten why_of (course call.words) call.before call.after a.comes.outcome a.comes.came)
+      by (inr (inl t)) = subst (IsShown call) (sym t.0) (meets_forgotten why_of (course call.command) call.before call.after a.comes.outcome a.comes.came)
       by (inr (inr t)) = subst (IsShown call) (sym t.1) (record {
         outcome = a.comes.outcome;
         came = a.comes.came;
@@ -107,7 +108,7 @@ module _ (call : Call) (answer : Ended) (a : AnswersSo call.words call.before ca
       by (inr (inl t)) = inl t.0
       by (inr (inr t)) = absurd (none.writes (rose_by call.sink_before.faults call.sink_after.faults t.2.failed))
 
-  pub refused_told : command_of call.words ≡ None → IsUsage call answer
+  pub refused_told : call.command ≡ None → IsUsage call answer
   refused_told none = record { untouched = a.comes.untouched none; said = by a.tells }
     where
       usage : a.end ≡ top.Usage
@@ -120,3 +121,8 @@ module _ (call : Call) (answer : Ended) (a : AnswersSo call.words call.before ca
 
   pub counts_told : KeepsCounts call
   counts_told = record { folder = a.comes.came.later; sink = a.later }
+
+-- what is answered to a command that is asked for, is answered to the one that the words give
+pub as_asked : (asked command : Option Command) (old new : FolderState) (out_old out_new : SinkState) (answer : Ended) → asked ≡ command →
+    AnswersSo asked old new out_old out_new answer → AnswersSo command old new out_old out_new answer
+as_asked asked command old new out_old out_new answer same a = subst (λ given. AnswersSo given old new out_old out_new answer) same a

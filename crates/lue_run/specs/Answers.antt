@@ -1,5 +1,5 @@
 -- What a call of the program answers, and why.
-use Rattle.std.specs.Prelude.{◌≡◌, ◌≤◌, ◌⊎◌, List, ℕ, None, Some, IfSome, ⊤}
+use Rattle.std.specs.Prelude.{◌≡◌, ◌≤◌, ◌⊎◌, List, ℕ, Option, None, Some, IfSome, ⊤}
 use Rattle.outside_io.specs.State.{Files, FolderState, SinkState, NoCountFell, Rose, Wrote, WroteFront}
 use Rattle.outside_io.specs.Counts.{raised}
 use Rattle.outside_io.specs.Causes.{ReadFault, WriteFault, NoMemory, RunOutcome, CutOff, HasCounted}
@@ -7,23 +7,23 @@ use Rattle.outside_io.specs.Events.{files_after}
 use Rattle.outside_io.specs.Met.{PutsGrew, HasFaults, Meets}
 use Rattle.lue_run.specs.declared.ended.Ended.{Ended}
 use Rattle.lue_run.specs.declared.ended.Ended.TheVariants.{Usage, Missing, TooLong, FolderReadFault, FolderWriteFault, OutFault, Memory}
-use Rattle.lue_run.specs.Words.{command_of}
+use Rattle.lue_run.specs.Words.{Command}
 use Rattle.lue_run.specs.Ends.{CourseEnd, why_of, answer_for}
 use Rattle.lue_run.specs.Lines.{line_of, status_of}
 use Rattle.lue_run.specs.Course.{course, outputs, verdict}
 
--- one call: its words, and the folder and the sink before and after it
+-- one call: the command that its words give, where they give one, and the folder and the sink before and after it
 pub record Call : Type 0 where
-  pub words : List (List ℕ)
+  pub command : Option Command
   pub before : FolderState
   pub after : FolderState
   pub sink_before : SinkState
   pub sink_after : SinkState
 
--- the call of these words that took the folder and the sink from their old states to their new ones
-abbrev pub call_of : List (List ℕ) → FolderState → FolderState → SinkState → SinkState → Call
-call_of words before after sink_before sink_after = record {
-  words = words;
+-- the call of this command that took the folder and the sink from their old states to their new ones
+abbrev pub call_of : Option Command → FolderState → FolderState → SinkState → SinkState → Call
+call_of command before after sink_before sink_after = record {
+  command = command;
   before = before;
   after = after;
   sink_before = sink_before;
@@ -32,11 +32,11 @@ call_of words before after sink_before sink_after = record {
 
 -- the run of the call came out so
 abbrev pub CameOut : Call → RunOutcome CourseEnd → Type 0
-CameOut call outcome = Meets why_of (course call.words) call.before call.after outcome
+CameOut call outcome = Meets why_of (course call.command) call.before call.after outcome
 
 -- ---- the verdict
 
--- an answer that the words and the files alone decide
+-- an answer that the command and the files alone decide
 abbrev pub IsVerdictKind : Ended → Type 0
 IsVerdictKind (FolderReadFault name) = ⊥
 IsVerdictKind (FolderWriteFault name) = ⊥
@@ -47,9 +47,9 @@ IsVerdictKind other = ⊤
 -- over these files the answer is the verdict, the puts that succeeded grew by the outputs, and the folder holds what it held
 -- with these puts applied, in order
 pub record IsVerdictOver (call : Call) (said : Ended) (files : Files) : Type 0 where
-  pub answer : said ≡ verdict call.words files
-  pub puts : PutsGrew call.before call.after (outputs call.words files)
-  pub holds : call.after.holds ≡ Some (files_after (outputs call.words files) files)
+  pub answer : said ≡ verdict call.command files
+  pub puts : PutsGrew call.before call.after (outputs call.command files)
+  pub holds : call.after.holds ≡ Some (files_after (outputs call.command files) files)
 
 -- No read and no put failed on the way; and where the folder tells its files, the answer is the verdict over them, with all
 -- outputs put.
@@ -71,7 +71,7 @@ pub record CouldNotWrite (call : Call) (instead : ℕ) : Type 0 where
   pub outcome : RunOutcome CourseEnd
   pub came : CameOut call outcome
   pub has_line : HasLine (answer_for outcome)
-  pub usage : answer_for outcome ≡ Usage → command_of call.words ≡ None
+  pub usage : answer_for outcome ≡ Usage → call.command ≡ None
   pub status : instead ≡ status_of (answer_for outcome)
   pub failed : call.sink_after.faults ≡ raised call.sink_before.faults
   pub front : WroteFront call.sink_before call.sink_after (line_of (answer_for outcome))
@@ -80,7 +80,7 @@ pub record CouldNotWrite (call : Call) (instead : ℕ) : Type 0 where
 -- of the course at which the folder failed, or the line that could not be written. For the others no file was counted so,
 -- and the verdict shows them.
 abbrev pub IsShown : Call → Ended → Type 0
-IsShown call Usage = command_of call.words ≡ None
+IsShown call Usage = call.command ≡ None
 IsShown call (Missing name) = HasCounted call.after (raised call.before.absents) call.before.overlongs
 IsShown call (TooLong name) = HasCounted call.after call.before.absents (raised call.before.overlongs)
 IsShown call (FolderReadFault name) = CameOut call (CutOff (ReadFault name))

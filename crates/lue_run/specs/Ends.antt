@@ -1,19 +1,22 @@
 -- How the course of a call ends, and the answer for it.
+use Rattle.std.specs.Prelude.{ℕ}
 use Rattle.outside_io.specs.Causes.{Fault, ReadFault, WriteFault, NoMemory, RunOutcome, CameTo, CutOff}
 use Rattle.outside_io.specs.Causes.{Why, ByContents}
 use Rattle.run_session.specs.Ends.{ScriptEnd, RanToEnd, Missing, TooLong, Script, Input, TooManyTasks, Overflow, why}
 use Rattle.lue_run.specs.declared.ended.Ended.{Ended}
 use Rattle.lue_run.specs.declared.ended.Ended.TheVariants as top
 
--- how the course of a call ends: what its words and the files decide
+-- how the course of a call ends: what its command and the files decide
 pub data CourseEnd : Type 0 where
   Usage : CourseEnd
   OfScript : (end : ScriptEnd) → CourseEnd
+  OfModel : (files : ℕ) → CourseEnd
 
 -- why a call ends so
 abbrev pub why_of : CourseEnd → Why
 why_of Usage = ByContents
 why_of (OfScript end) = why end
+why_of (OfModel files) = ByContents
 
 -- the answer for the end of a script
 abbrev pub script_answer : ScriptEnd → Ended
@@ -29,6 +32,7 @@ script_answer (Overflow at) = top.Overflow at
 abbrev pub end_answer : CourseEnd → Ended
 end_answer Usage = top.Usage
 end_answer (OfScript end) = script_answer end
+end_answer (OfModel files) = top.Made files
 
 -- the answer for what cut a call off
 abbrev pub fault_answer : Fault → Ended

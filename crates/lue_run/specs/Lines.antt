@@ -10,7 +10,7 @@ use Rattle.run_session.specs.declared.ends.InputKind.TheVariants.{Grid, Table, S
 use Rattle.run_session.specs.declared.ends.ScriptFault.{ScriptFault}
 use Rattle.run_session.specs.declared.ends.ScriptFault.TheVariants.{Syntax, Meaning}
 use Rattle.lue_run.specs.declared.ended.Ended.{Ended}
-use Rattle.lue_run.specs.declared.ended.Ended.TheVariants.{Done, Usage, Missing, TooLong, Script, Input, TooManyTasks, Overflow}
+use Rattle.lue_run.specs.declared.ended.Ended.TheVariants.{Done, Made, Usage, Missing, TooLong, Script, Input, TooManyTasks, Overflow}
 use Rattle.lue_run.specs.declared.ended.Ended.TheVariants.{FolderReadFault, FolderWriteFault, OutFault, Memory}
 use Rattle.lue_run.specs.Kinds.{grid_word, table_word, series_word, syntax_word, meaning_word}
 
@@ -65,6 +65,7 @@ answer_row line status = record { line = line; status = status }
 -- the table of answers: the line and the status of each
 abbrev pub answer_row_of : Ended → AnswerRow
 answer_row_of (Done files steps) = answer_row (codes "done files=" ++ decimal files ++ codes " steps=" ++ decimal steps ++ codes "\n") 0
+answer_row_of (Made files) = answer_row (codes "made files=" ++ decimal files ++ codes "\n") 0
 answer_row_of Usage = answer_row (codes "usage\n") 2
 answer_row_of (Missing name) = answer_row (named_line (codes "missing ") name) 4
 answer_row_of (TooLong name) = answer_row (named_line (codes "too long ") name) 4

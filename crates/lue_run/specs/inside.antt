@@ -1,2 +1,4 @@
 -- Words of the contracts of calls that are parts of others.
+pub mod Asked
+pub mod Puts
 pub mod Top

@@ -7,6 +7,8 @@ use run_session::{InputKind, ScriptFault};
 pub enum Ended {
     /// The script was run to its end: the number of files put, and that of the last step.
     Done { files: u64, steps: u32 },
+    /// A model was made: the number of files put.
+    Made { files: u64 },
     /// The words are no command.
     Usage,
     /// There is no file of this name.

@@ -8,7 +8,7 @@ pub fn status(end: &Ended) -> u8
     ensures { result ≡ status_of end.now }
 {
     match end {
-        Ended::Done { .. } => 0,
+        Ended::Done { .. } | Ended::Made { .. } => 0,
         Ended::Usage => 2,
         Ended::Script(_) => 3,
         Ended::Missing(_) | Ended::TooLong(_) | Ended::Input { .. } => 4,

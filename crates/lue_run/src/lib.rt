@@ -1,6 +1,7 @@
 //! Running models: the top calls of the program, and what they promise.
 //!
-//! A call reads a script and its inputs from a folder, puts its outputs into it, and writes one line to a sink. Its
+//! A call reads a script and its inputs from a folder and puts its outputs into it, or puts the files of a model that it
+//! makes, and writes one line to a sink. Its
 //! contract says which files are put, in which order, with which end, and why each answer comes.
 #![tactic(auto)]
 
@@ -9,6 +10,7 @@ mod ended;
 mod exit_status;
 mod kinds;
 mod line;
+mod make;
 mod number;
 mod plain;
 mod script_line;

@@ -31,6 +31,16 @@ fn done_line(alloc: Global, files: u64, steps: u32) -> Result<Vec<u8>, AllocErro
     Ok(line)
 }
 
+// The line of a model that was made.
+fn made_line(alloc: Global, files: u64) -> Result<Vec<u8>, AllocError>
+    ensures { IfOk result (λ line. line.items ≡ line_of (Ended.Made files)) }
+{
+    let mut line = Vec::new(alloc);
+    put_number(&mut line, b"made files=", files)?;
+    line.push(b'\n')?;
+    Ok(line)
+}
+
 // The line of a script that has too many tasks.
 fn tasks_line(alloc: Global, count: u64) -> Result<Vec<u8>, AllocError>
     ensures { IfOk result (λ line. line.items ≡ line_of (Ended.TooManyTasks count)) }
@@ -96,6 +106,7 @@ pub fn line(alloc: Global, end: &Ended) -> Result<Vec<u8>, AllocError>
 {
     match end {
         Ended::Done { files, steps } => done_line(alloc, *files, *steps),
+        Ended::Made { files } => made_line(alloc, *files),
         Ended::Usage => Vec::from_slice(alloc, b"usage\n"),
         Ended::Missing(name) => with_name(alloc, b"missing ", name),
         Ended::TooLong(name) => with_name(alloc, b"too long ", name),

@@ -1,15 +1,18 @@
-ghost use Rattle.std.specs.Prelude.{◌≡◌, ◌≤◌, None};
+ghost use Rattle.std.specs.Prelude.{◌≡◌, ◌≤◌, None, Some};
+ghost use Rattle.std.specs.Option.{option_map};
 ghost use Rattle.outside_io.specs.Causes.{outcome_as};
 ghost use Rattle.lue_run.specs.Answers.{HasLine, IsComplete, IsUsage, IsShown, IsVerdict, IsVerdictKind, LineIsWritten, KeepsCounts, NoFault, call_of};
 ghost use Rattle.run_session.specs.Ends.{session_outcome};
 ghost use Rattle.lue_run.specs.Ends.{OfScript, answer_for};
-ghost use Rattle.lue_run.specs.Words.{command_of};
+ghost use Rattle.lue_run.specs.Words.{plain_command};
+ghost use Rattle.lue_run.specs.inside.Asked.{command_asked};
 ghost use Rattle.lue_run.specs.inside.Top.{AnswersSo, ComesTo, Tells};
 
-use crate::command::named_script;
+use crate::command::{Asked, plain_asked};
 use crate::ended::Ended;
 use crate::exit_status::status;
 use crate::line::line;
+use crate::make::run_make;
 use crate::plain::run_plain;
 use cell_values::Word;
 use outside_io::{Folder, Sink};
@@ -35,12 +38,22 @@ fn ended(end: SessionEnd) -> Ended
     }
 }
 
-// Does what the words ask for.
-fn come_to<F: Folder>(alloc: Global, words: &[Word], folder: &mut F) -> Ended
-    ensures { ComesTo words.now (F.state folder.old) (F.state folder.new) result }
+// Does what is wanted.
+fn fulfil<F: Folder>(alloc: Global, wanted: Asked<'_>, folder: &mut F) -> Ended
+    ensures { ComesTo (Some (command_asked wanted.entry)) (F.state folder.old) (F.state folder.new) result }
 {
-    match named_script(words) {
-        Some(name) => ended(run_plain(alloc, name, folder)),
+    match wanted {
+        Asked::Plain(name) => ended(run_plain(alloc, name, folder)),
+        Asked::Make(number) => run_make(alloc, number, folder),
+    }
+}
+
+// Does what is asked for, if anything is.
+fn come_to<F: Folder>(alloc: Global, asked: Option<Asked<'_>>, folder: &mut F) -> Ended
+    ensures { ComesTo (option_map command_asked asked.entry) (F.state folder.old) (F.state folder.new) result }
+{
+    match asked {
+        Some(wanted) => fulfil(alloc, wanted, folder),
         None => Ended::Usage,
     }
 }
@@ -63,17 +76,23 @@ fn tell<S: Sink>(alloc: Global, end: Ended, out: &mut S) -> Ended
     }
 }
 
-// Does what the words ask for, and writes one line.
-fn answer<F: Folder, S: Sink>(alloc: Global, words: &[Word], folder: &mut F, out: &mut S) -> Ended
-    ensures { AnswersSo words.now (F.state folder.old) (F.state folder.new) (S.state out.old) (S.state out.new) result }
+// Does what is asked for, and writes one line.
+fn answer<F: Folder, S: Sink>(
+    alloc: Global,
+    asked: Option<Asked<'_>>,
+    folder: &mut F,
+    out: &mut S,
+) -> Ended
+    ensures { AnswersSo (option_map command_asked asked.entry) (F.state folder.old) (F.state folder.new) (S.state out.old) (S.state out.new) result }
 {
-    match come_to(alloc, words, folder) {
+    match come_to(alloc, asked, folder) {
         Ended::Memory => Ended::Memory,
         end => tell(alloc, end, out),
     }
 }
 
-/// Does what the words ask for, and writes one line to the sink: `plain SCRIPT` runs a script.
+/// Does what the words ask for, and writes one line to the sink: `plain SCRIPT` runs a script, and `make NUMBER` makes a
+/// model.
 ///
 /// The files that the script names are read from the folder, its outputs are put into it, in order, and then the line
 /// of the end is written. After a put that failed nothing more is put.
@@ -85,19 +104,19 @@ pub fn lue_plain<F: Folder, S: Sink>(
 ) -> Ended
     // An answer that is no fault of the outside and not want of memory is the verdict, with all outputs put.
     ensures verdict { IsVerdictKind result
-        → IsVerdict (call_of words.now (F.state folder.old) (F.state folder.new) (S.state out.old) (S.state out.new)) result }
+        → IsVerdict (call_of (plain_command words.now) (F.state folder.old) (F.state folder.new) (S.state out.old) (S.state out.new)) result }
     // Why each answer comes, and what was put before a fault.
-    ensures shown { IsShown (call_of words.now (F.state folder.old) (F.state folder.new) (S.state out.old) (S.state out.new)) result }
+    ensures shown { IsShown (call_of (plain_command words.now) (F.state folder.old) (F.state folder.new) (S.state out.old) (S.state out.new)) result }
     // The line that is written.
-    ensures line { LineIsWritten (call_of words.now (F.state folder.old) (F.state folder.new) (S.state out.old) (S.state out.new)) result }
+    ensures line { LineIsWritten (call_of (plain_command words.now) (F.state folder.old) (F.state folder.new) (S.state out.old) (S.state out.new)) result }
     // Where no fault of the outside came, the answer is the verdict with its line written, or want of memory.
-    ensures complete { NoFault (call_of words.now (F.state folder.old) (F.state folder.new) (S.state out.old) (S.state out.new))
-        → IsComplete (call_of words.now (F.state folder.old) (F.state folder.new) (S.state out.old) (S.state out.new)) result }
+    ensures complete { NoFault (call_of (plain_command words.now) (F.state folder.old) (F.state folder.new) (S.state out.old) (S.state out.new))
+        → IsComplete (call_of (plain_command words.now) (F.state folder.old) (F.state folder.new) (S.state out.old) (S.state out.new)) result }
     // Words that are no command.
-    ensures refused { command_of words.now ≡ None
-        → IsUsage (call_of words.now (F.state folder.old) (F.state folder.new) (S.state out.old) (S.state out.new)) result }
+    ensures refused { plain_command words.now ≡ None
+        → IsUsage (call_of (plain_command words.now) (F.state folder.old) (F.state folder.new) (S.state out.old) (S.state out.new)) result }
     // Counts never fall.
-    ensures counts { KeepsCounts (call_of words.now (F.state folder.old) (F.state folder.new) (S.state out.old) (S.state out.new)) }
+    ensures counts { KeepsCounts (call_of (plain_command words.now) (F.state folder.old) (F.state folder.new) (S.state out.old) (S.state out.new)) }
 {
-    answer(alloc, words, folder, out)
+    answer(alloc, plain_asked(words), folder, out)
 }

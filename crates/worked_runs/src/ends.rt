@@ -141,14 +141,21 @@ fn refuses_by_name_and_place(rt: HostRuntime) -> Result<(), Fail> {
 }
 
 /// Words that are no command.
-static OTHER_WORDS: [&str; 8] = [
+static OTHER_WORDS: [&str; 15] = [
     "",
     "plain",
     "plain a/b",
     "plain .mod",
     "plain m.mod 1",
     "run m.mod 1 1 1",
-    "make 7",
+    "make",
+    "make 7 7",
+    "make m.mod",
+    "make -1",
+    "make +7",
+    "make 007",
+    "make 7.0",
+    "make 4294967296",
     "--help",
 ];
 

@@ -13,6 +13,8 @@ mod faults;
 #[cfg(test)]
 mod files;
 #[cfg(test)]
+mod models;
+#[cfg(test)]
 mod noting;
 #[cfg(test)]
 mod regions;

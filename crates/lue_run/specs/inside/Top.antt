@@ -1,5 +1,5 @@
 -- What the parts of a top call answer.
-use Rattle.std.specs.Prelude.{◌≡◌, ◌⊎◌, ◌≤◌, List, ℕ, [], None}
+use Rattle.std.specs.Prelude.{◌≡◌, ◌⊎◌, ◌≤◌, ℕ, [], Option, None}
 use Rattle.outside_io.specs.State.{FolderState, SinkState, WroteFront}
 use Rattle.outside_io.specs.Counts.{raised}
 use Rattle.outside_io.specs.Causes.{RunOutcome}
@@ -9,17 +9,17 @@ use Rattle.lue_run.specs.declared.ended.Ended.TheVariants.{Usage, OutFault, Memo
 use Rattle.lue_run.specs.Ends.{CourseEnd, why_of, answer_for}
 use Rattle.lue_run.specs.Lines.{line_of, status_of}
 use Rattle.lue_run.specs.Course.{course}
-use Rattle.lue_run.specs.Words.{command_of}
+use Rattle.lue_run.specs.Words.{Command}
 use Rattle.lue_run.specs.Answers.{HasLine, WroteWhole}
 
--- what the words came to before their line
-pub record ComesTo (words : List (List ℕ)) (old new : FolderState) (end : Ended) : Type 0 where
+-- what the command came to before its line
+pub record ComesTo (command : Option Command) (old new : FolderState) (end : Ended) : Type 0 where
   pub outcome : RunOutcome CourseEnd
   pub is : end ≡ answer_for outcome
-  pub came : Meets why_of (course words) old new outcome
-  pub untouched : command_of words ≡ None → new ≡ old
-  pub refused : command_of words ≡ None → end ≡ Usage
-  pub usage : end ≡ Usage → command_of words ≡ None
+  pub came : Meets why_of (course command) old new outcome
+  pub untouched : command ≡ None → new ≡ old
+  pub refused : command ≡ None → end ≡ Usage
+  pub usage : end ≡ Usage → command ≡ None
 
 -- the line of an end could not be written whole
 pub record Unwritten (end : Ended) (old new : SinkState) (instead : ℕ) : Type 0 where
@@ -35,9 +35,9 @@ Tells end old new answer =
     ⊎ ((answer ≡ Memory) × WroteWhole old new [])
     ⊎ ((instead : ℕ) × (answer ≡ OutFault instead) × Unwritten end old new instead)
 
--- what is answered: the words came to an end, and that is told
-pub record AnswersSo (words : List (List ℕ)) (old new : FolderState) (out_old out_new : SinkState) (answer : Ended) : Type 0 where
+-- what is answered: the command came to an end, and that is told
+pub record AnswersSo (command : Option Command) (old new : FolderState) (out_old out_new : SinkState) (answer : Ended) : Type 0 where
   pub end : Ended
-  pub comes : ComesTo words old new end
+  pub comes : ComesTo command old new end
   pub tells : Tells end out_old out_new answer
   pub later : out_old.faults ≤ out_new.faults

@@ -1,0 +1,62 @@
+-- How the model was made and put, by how this came out.
+use Rattle.std.proofs.Common.{length, map, refl, sym, ap, subst, ◌∙◌}
+use Rattle.std.specs.Prelude.{Err}
+use Rattle.std.proofs.lemmas.List.{length-map}
+use Rattle.outside_io.specs.Causes.{CameTo, CutOff, NoMemory, WriteFault, outcome_by, why_by}
+use Rattle.outside_io.specs.Met.{Meets}
+use Rattle.outside_io.specs.Puts.{no_error}
+use Rattle.outside_io.specs.Runs.{in_turn}
+use Rattle.outside_io.proofs.Callers.{meets_no_memory, read_keeps_all}
+use Rattle.model_maker.specs.Files.{made_files}
+use Rattle.model_maker.specs.Made.{file_made}
+use Rattle.lue_run.specs.declared.ended.Ended.TheVariants as top
+use Rattle.lue_run.specs.declared.make.NotPut.{NotPut}
+use Rattle.lue_run.specs.Course.{made_put, make_run}
+use Rattle.lue_run.specs.Ends.{OfModel, why_of}
+use Rattle.lue_run.specs.inside.Puts.{not_put_outcome}
+use Rattle.lue_run.proofs.MakeLemmas.{puts_meet}
+use Rattle.lue_run.proofs.make.run_make.Goals as goal
+
+pub returns-in_default : goal.returns-in_default
+returns-in_default g c =
+    let s = g.F.Folder.state c.args.folder.now in
+    record { outcome = CutOff NoMemory; is = refl; came = meets_no_memory why_of (make_run c.args.number) s s (read_keeps_all s); made = λ is. cc is }
+
+pub returns-in-Ok-put_all : goal.returns-in-Ok-put_all
+returns-in-Ok-put_all g c =
+    let state = g.F.Folder.state in
+    let are = ap (map file_made) c.deref.ensures.value ∙ c.in-Ok.ensures in
+    record {
+      outcome = CameTo (OfModel (length (made_files c.args.number)));
+      is = ap top.Made (c.len.ensures ∙ sym c.deref.ensures.len ∙ sym (length-map c.deref.result.now file_made) ∙ ap length are);
+      came = puts_meet c.args.number (map file_made c.deref.result.now) (state c.args.folder.now) (state c.put_all.new.folder) _ are c.in-Ok-put_all.ensures;
+      made = λ is. cc is;
+    }
+
+pub returns-in-Err-Failed : goal.returns-in-Err-Failed
+returns-in-Err-Failed g c =
+    let state = g.F.Folder.state in
+    let old = state c.args.folder.now in
+    let new = state c.put_all.new.folder in
+    let are = ap (map file_made) c.deref.ensures.value ∙ c.in-Ok.ensures in
+    record {
+      outcome = CutOff (WriteFault c.in-Err-Failed.name);
+      is = refl;
+      came = puts_meet c.args.number (map file_made c.deref.result.now) old new (CutOff (WriteFault c.in-Err-Failed.name)) are
+          (subst (λ (why : NotPut). Meets (why_by no_error) (in_turn made_put tt (map file_made c.deref.result.now)) old new (outcome_by not_put_outcome (Err why))) c.in-Err-Failed.field-0-is c.in-Err-Failed.ensures);
+      made = λ is. cc is;
+    }
+
+pub returns : goal.returns
+returns g c =
+    let state = g.F.Folder.state in
+    let old = state c.args.folder.now in
+    let new = state c.put_all.new.folder in
+    let are = ap (map file_made) c.deref.ensures.value ∙ c.in-Ok.ensures in
+    record {
+      outcome = CutOff NoMemory;
+      is = refl;
+      came = puts_meet c.args.number (map file_made c.deref.result.now) old new (CutOff NoMemory) are
+          (subst (λ (why : NotPut). Meets (why_by no_error) (in_turn made_put tt (map file_made c.deref.result.now)) old new (outcome_by not_put_outcome (Err why))) c.in-Err-Memory.field-0-is c.in-Err-Memory.ensures);
+      made = λ is. cc is;
+    }

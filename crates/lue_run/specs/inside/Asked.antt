@@ -1,0 +1,9 @@
+-- What the code has of a command.
+use Rattle.lue_run.specs.declared.command.Asked.{Asked}
+use Rattle.lue_run.specs.declared.command.Asked.TheVariants as asked
+use Rattle.lue_run.specs.Words.{Command, Plain, Make}
+
+-- the command that is asked for
+abbrev pub command_asked : Asked → Command
+command_asked (asked.Plain script) = Plain script.now
+command_asked (asked.Make number) = Make number
