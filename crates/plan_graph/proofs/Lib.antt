@@ -1,2 +1,4 @@
+mod BorderLemmas
+mod DrainLemmas
 mod NeedLemmas
 mod PlanLemmas

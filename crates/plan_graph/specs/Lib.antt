@@ -1,2 +1,4 @@
+pub mod Borders
 pub mod Graphs
+pub mod inside
 pub mod PlanGraphs

@@ -1,8 +1,12 @@
 //! A plan with its graph: what its tasks read, who reads them, and what leads in and out of them.
 #![tactic(auto)]
 
+mod borders;
 mod build;
 mod graph;
+mod laws;
 
+pub use borders::Borders;
 pub use build::build_graph;
 pub use graph::PlanGraph;
+pub use laws::transports_have_their_drains;
