@@ -83,6 +83,7 @@ local_keeps s plan is few few_needs =
       few_readers = λ t below. let one = turned_few count t plan.needs below in omega arith;
       plan_tasks = refl;
       plan_needs = refl;
+      plan_flows = refl;
     }
 
 pub few_tasks : (program : Program) (s : Span) (g : Tiling) (plan : PlanValue) → plan ≡ span_plan program s g → span_tasks (tile_count g) program s ≤ most_tasks → length plan.tasks ≤ most_tasks

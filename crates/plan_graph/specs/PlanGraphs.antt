@@ -88,6 +88,7 @@ pub record IsPlan (p : PlanGraphValue) : Type 0 where
   pub few_readers : (t : ℕ) → t < p.tasks → length (list_at p.readers t) < 2 ^ 32
   pub plan_tasks : p.tasks ≡ length p.plan.tasks
   pub plan_needs : p.needs ≡ p.plan.needs
+  pub plan_flows : p.flows ≡ map (λ t. is_flow_work t.work) p.plan.tasks
 
 -- It is the plan of its span: of this program, over these tiles. (A plan without transports asks nothing of what is known.)
 abbrev pub IsPlanOf : Program → Known → Tiling → PlanGraphValue → Type 0
