@@ -8,4 +8,5 @@ pub mod RowLaws
 pub mod Laws
 pub mod RowSteps
 pub mod Search
+pub mod SortedRows
 pub mod Values

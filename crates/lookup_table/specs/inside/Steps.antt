@@ -78,13 +78,33 @@ rows_are_apart (row ∷ rows) = int_le row.a.first row.a.last && (begins_behind 
 abbrev pub Begun : List Row → ℤ → ℕ → Type 0
 Begun rows z n = IsPartitionPoint (λ row. int_le row.a.first z ≡ true) (λ row. int_le row.a.first z ≡ false) rows n
 
--- what a table keeps: one to four keys, results of its kind, and whether its first keys are apart where they are its only ones
-pub record IsKept (keys : ℕ) (kind : Kind) (rows : List Row) (ascending : Bool) : Type 0 where
+-- a range begins and ends where another one does, or before
+abbrev pub no_later : KeyRange → KeyRange → Bool
+no_later range next = int_le range.first next.first && int_le range.last next.last
+
+-- the first key of the next row, if there is one, begins and ends where that of the row does, or behind
+abbrev pub comes_no_earlier : Row → List Row → Bool
+comes_no_earlier row [] = true
+comes_no_earlier row (next ∷ rows) = no_later row.a next.a
+
+-- the first keys of the rows begin and end in ascending order
+abbrev pub rows_ascend : List Row → Bool
+rows_ascend [] = true
+rows_ascend (row ∷ rows) = comes_no_earlier row rows && rows_ascend rows
+
+-- so many rows end before a number, and they stand first
+abbrev pub EndedBefore : List Row → ℤ → ℕ → Type 0
+EndedBefore rows z n = IsPartitionPoint (λ row. int_lt row.a.last z ≡ true) (λ row. int_lt row.a.last z ≡ false) rows n
+
+-- what a table keeps: one to four keys, results of its kind, whether its first keys are apart where they are its only ones, and
+-- whether they ascend
+pub record IsKept (keys : ℕ) (kind : Kind) (rows : List Row) (ascending sorted : Bool) : Type 0 where
   pub some : 1 ≤ keys
   pub few : keys ≤ 4
   pub values : All (λ row. IsValue kind row.result) rows
   pub one : ascending ≡ true → keys ≡ 1
   pub apart : ascending ≡ true → rows_are_apart rows ≡ true
+  pub in_order : sorted ≡ true → rows_ascend rows ≡ true
 
 -- the result of a row that is found, and a missing value where there is none
 abbrev pub cell_found : Option Row → Cell
