@@ -72,8 +72,8 @@ pub fn counts(
     Ok(counts)
 }
 
-// Adds all counts of a map to those of another.
-fn pour_counts(into: &mut Counts, from: &Counts) -> Result<(), AllocError>
+/// Adds all counts of a map to those of another.
+pub fn pour_counts(into: &mut Counts, from: &Counts) -> Result<(), AllocError>
     requires into { AreCounts most_cells into.old.entries }
     requires from { AreCounts most_cells from.now.entries }
     requires few { (own : Member) → count_at into.old own + count_at from.now own ≤ most_cells }

@@ -9,6 +9,7 @@ mod laws;
 mod leader;
 mod partial;
 mod results;
+mod runs;
 mod tally;
 
 pub use laws::{a_map_is_one_area, the_order_of_places_does_not_matter};

@@ -9,11 +9,11 @@ ghost use Rattle.area_ops.specs.Partials.{StandsFor};
 ghost use Rattle.region_meaning.specs.AreaResults.{area_outcome, area_result};
 ghost use Rattle.area_ops.specs.inside.Counts.{counts_numbers};
 ghost use Rattle.area_ops.specs.inside.Leaders.{class_result};
-ghost use Rattle.area_ops.specs.inside.Runs.{tally_with};
-ghost use Rattle.area_ops.specs.inside.Tallies.{AreTallies, IsTally, place_tally, seen_from, tally_at, tally_join, tally_of_one, number_tally};
+ghost use Rattle.area_ops.specs.inside.Tallies.{IsTally, seen_from, tally_at, tally_join};
 
-use crate::counts::{Counts, counts, counts_of_both};
+use crate::counts::{Counts, counts, counts_of_both, pour_counts};
 use crate::results::{Results, counted, outcomes, tallied};
+use crate::runs::tallies;
 use crate::tally::Tally;
 use cell_values::Cell;
 use region_meaning::AreaOp;
@@ -46,13 +46,6 @@ impl Model for Partial {
     ghost invariant = { λ p. (p.cells ≤ most_cells) × AreTallies p.cells (tally_at p.areas) × AreCounts p.cells p.counts.entries };
 }
 
-/// The tally of places of one class, one after another, that no map has yet.
-#[derive(Clone, Copy)]
-struct Run {
-    class: i64,
-    tally: Tally,
-}
-
 // Whether the operation asks how often each number stands in a class.
 fn counts_numbers(op: AreaOp) -> bool
     ensures { result ≡ counts_numbers op }
@@ -72,8 +65,12 @@ pub(crate) fn taken(op: AreaOp, value: Cell) -> Option<i64>
     }
 }
 
-// Adds a tally to that of a class.
-fn add(areas: &mut BTreeMap<i64, Tally>, class: i64, more: Tally) -> Result<(), AllocError>
+/// Adds a tally to that of a class.
+pub(crate) fn add(
+    areas: &mut BTreeMap<i64, Tally>,
+    class: i64,
+    more: Tally,
+) -> Result<(), AllocError>
     requires old { (own : ℤ) → IsTally (tally_at areas.old own) }
     requires more { IsTally more }
     requires few { (tally_at areas.old class).count + more.count ≤ most_cells }
@@ -83,97 +80,6 @@ fn add(areas: &mut BTreeMap<i64, Tally>, class: i64, more: Tally) -> Result<(), 
     let tally = areas.entry(class)?.or_insert(Tally::none());
     *tally = tally.join(more);
     Ok(())
-}
-
-// Adds a run of places to the tallies of the classes.
-fn end_run(areas: &mut BTreeMap<i64, Tally>, run: Run) -> Result<(), AllocError>
-    requires old { (own : ℤ) → IsTally (tally_at areas.old own) }
-    requires run { IsTally run.tally }
-    requires few { (own : ℤ) → (tally_with areas.old run own).count ≤ most_cells }
-    ensures tallies { OnOk result ((own : ℤ) → tally_at areas.new own ≡ tally_with areas.old run own) }
-    ensures sound { OnOk result ((own : ℤ) → IsTally (tally_at areas.new own)) }
-{
-    if run.tally.count == 0 {
-        return Ok(());
-    }
-    add(areas, run.class, run.tally)
-}
-
-// Adds a number of a class: to the run, which ends where it is of another class.
-fn add_number(
-    areas: &mut BTreeMap<i64, Tally>,
-    run: &mut Run,
-    class: i64,
-    number: i64,
-) -> Result<(), AllocError>
-    requires old { (own : ℤ) → IsTally (tally_at areas.old own) }
-    requires run { IsTally run.old.tally }
-    requires few { (own : ℤ) → (tally_with areas.old run.old own).count + 1 ≤ most_cells }
-    ensures tallies { OnOk result ((own : ℤ) → tally_with areas.new run.new own ≡ tally_join (tally_with areas.old run.old own) (seen_from own class (tally_of_one number))) }
-    ensures sound { OnOk result ((own : ℤ) → IsTally (tally_at areas.new own)) }
-    ensures run { OnOk result (IsTally run.new.tally) }
-{
-    let one = Tally::one(number);
-    if class == run.class {
-        run.tally = run.tally.join(one);
-        return Ok(());
-    }
-    end_run(areas, *run)?;
-    *run = Run { class, tally: one };
-    Ok(())
-}
-
-// Adds a place to the tallies of the classes.
-fn add_place(
-    areas: &mut BTreeMap<i64, Tally>,
-    run: &mut Run,
-    op: AreaOp,
-    value: Cell,
-    area: Cell,
-) -> Result<(), AllocError>
-    requires old { (own : ℤ) → IsTally (tally_at areas.old own) }
-    requires run { IsTally run.old.tally }
-    requires few { (own : ℤ) → (tally_with areas.old run.old own).count + 1 ≤ most_cells }
-    ensures tallies { OnOk result ((own : ℤ) → tally_with areas.new run.new own ≡ tally_join (tally_with areas.old run.old own) (place_tally op own value area)) }
-    ensures sound { OnOk result ((own : ℤ) → IsTally (tally_at areas.new own)) }
-    ensures run { OnOk result (IsTally run.new.tally) }
-{
-    match (area, taken(op, value)) {
-        (Cell::Val(class), Some(number)) => add_number(areas, run, class, number),
-        _ => Ok(()),
-    }
-}
-
-// The tallies of the classes over so many places.
-fn tallies(
-    alloc: Global,
-    op: AreaOp,
-    values: Arg<'_>,
-    classes: Arg<'_>,
-    len: usize,
-) -> Result<BTreeMap<i64, Tally>, AllocError>
-    requires few { len ≤ most_cells }
-    requires values { SpansPlaces values len }
-    requires classes { SpansPlaces classes len }
-    ensures numbers { IfOk result (λ areas. (class : ℤ) → tally_at areas class ≡ number_tally (numbers_of op (area_places values.entry classes.entry len) class)) }
-    ensures sound { IfOk result (λ areas. AreTallies len (tally_at areas)) }
-{
-    let mut areas = BTreeMap::new(alloc);
-    let mut run = Run {
-        class: 0,
-        tally: Tally::none(),
-    };
-    for place in 0..len {
-        add_place(
-            &mut areas,
-            &mut run,
-            op,
-            values.at(place),
-            classes.at(place),
-        )?;
-    }
-    end_run(&mut areas, run)?;
-    Ok(areas)
 }
 
 // Adds the tallies of all classes of a map to those of another.
@@ -261,6 +167,24 @@ impl Partial {
         self.counts = counts;
         self.cells += other.cells;
         Ok(())
+    }
+
+    /// This partial with the cells of another one of the same operation, which are poured into it; after a refusal there is
+    /// none. Takes time in proportion to the classes of the other, times the logarithm of the number of all, so that many
+    /// partials are put together in the time of their classes.
+    pub fn with(self, other: &Partial) -> Result<Partial, AllocError>
+        requires op { self.op ≡ other.now.op }
+        requires few { self.cells + other.now.cells ≤ most_cells }
+        // It stands for the places of both.
+        ensures stands { IfOk result (λ both. (xs ys : List AreaPlace) → StandsFor self xs → StandsFor other.now ys → StandsFor both (xs ++ ys)) }
+        ensures cells { IfOk result (λ both. both.cells ≡ self.cells + other.now.cells) }
+        ensures op { IfOk result (λ both. both.op ≡ self.op) }
+    {
+        let mut both = self;
+        pour(&mut both.areas, &other.areas)?;
+        pour_counts(&mut both.counts, &other.counts)?;
+        both.cells += other.cells;
+        Ok(both)
     }
 
     // What the operation gives of each class.

@@ -1,6 +1,6 @@
 //! What an operation gives of each class, and of each place by its class.
 
-ghost use Rattle.std.specs.Prelude.{◌≡◌, ℤ, ◌≤◌, List, true, false, option_map, None, IfOk};
+ghost use Rattle.std.specs.Prelude.{◌≡◌, ℤ, ◌≤◌, List, [], true, false, option_map, None, IfOk};
 ghost use Rattle.std.specs.BTreeMap.{get};
 ghost use Rattle.std.specs.List.Sorted.{IsStrictlySortedBy};
 ghost use Rattle.std.specs.Map.{keys_of};
@@ -11,11 +11,12 @@ ghost use Rattle.tile_map.specs.Parts.{part_of};
 ghost use Rattle.region_meaning.specs.Numbers.{occurrences};
 ghost use Rattle.region_meaning.specs.AreaResults.{area_result};
 ghost use Rattle.area_ops.specs.inside.Counts.{AreCounts, count_at, counts_numbers, member_cmp};
-ghost use Rattle.area_ops.specs.inside.Leaders.{led_by_entries, led_result, place_result, class_result};
+ghost use Rattle.area_ops.specs.inside.Leaders.{AreKnown, class_result, led_by_entries, led_result, place_result};
 ghost use Rattle.area_ops.specs.inside.Tallies.{AreTallies, tally_at, tally_result};
 
 use crate::counts::Counts;
 use crate::leader::Leader;
+use crate::runs::{SLOTS, class_slot};
 use crate::tally::Tally;
 use cell_values::{Cell, Cells, Over};
 use region_meaning::AreaOp;
@@ -92,45 +93,51 @@ struct Known {
     outcome: Result<Cell, Over>,
 }
 
-// What the results give at a place of a class. The class before is not looked up again.
-fn outcome(results: &Results, known: &mut Known, area: Cell) -> Result<Cell, Over>
+// What the results give of a class. What is known already is not looked up again.
+fn known_outcome(results: &Results, known: &mut Known, class: i64) -> Result<Cell, Over>
     requires { known.old.outcome ≡ class_result results.now.entries known.old.class }
     ensures known { known.new.outcome ≡ class_result results.now.entries known.new.class }
+    ensures value { result ≡ class_result results.now.entries class }
+{
+    if class != known.class {
+        *known = Known {
+            class,
+            outcome: class_outcome(results, class),
+        };
+    }
+    known.outcome
+}
+
+// What the results give at a place of a class, which is kept at the class's slot.
+fn outcome(results: &Results, known: &mut [Known], area: Cell) -> Result<Cell, Over>
+    requires { AreKnown results.now.entries known.old }
+    ensures known { AreKnown results.now.entries known.new }
     ensures value { result ≡ place_result results.now.entries area }
 {
     match area {
         Cell::Mv => Ok(Cell::Mv),
-        Cell::Val(class) => {
-            if class != known.class {
-                *known = Known {
-                    class,
-                    outcome: class_outcome(results, class),
-                };
-            }
-            known.outcome
-        }
+        Cell::Val(class) => known_outcome(results, &mut known[class_slot(class)], class),
     }
 }
 
-/// What the results give at so many places of classes.
-pub fn outcomes(
-    alloc: Global,
+// What the results give at so many places of classes, put behind no cells.
+fn fill(
     results: &Results,
+    known: &mut [Known],
     classes: Arg<'_>,
     len: usize,
+    none: Vec<Cell>,
 ) -> Result<Part, AllocError>
     requires len { len ≤ most_cells }
     requires classes { SpansPlaces classes len }
+    requires none { none.items ≡ [] }
+    requires known { AreKnown results.now.entries known.old }
     ensures { IfOk result (λ part. part ≡ part_of (λ place. place_result results.now.entries (arg_cell classes.entry place)) len) }
 {
-    let mut cells = Vec::with_capacity(alloc, len)?;
-    let mut known = Known {
-        class: 0,
-        outcome: class_outcome(results, 0),
-    };
+    let mut cells = none;
     let mut over = None;
     for place in 0..len {
-        match outcome(results, &mut known, classes.at(place)) {
+        match outcome(results, known, classes.at(place)) {
             Ok(cell) => cells.push(cell)?,
             Err(_) => {
                 cells.push(Cell::Mv)?;
@@ -144,4 +151,25 @@ pub fn outcomes(
         cells: Cells::from_vec(cells),
         over,
     })
+}
+
+/// What the results give at so many places of classes.
+pub fn outcomes(
+    alloc: Global,
+    results: &Results,
+    classes: Arg<'_>,
+    len: usize,
+) -> Result<Part, AllocError>
+    requires len { len ≤ most_cells }
+    requires classes { SpansPlaces classes len }
+    ensures { IfOk result (λ part. part ≡ part_of (λ place. place_result results.now.entries (arg_cell classes.entry place)) len) }
+{
+    let none = Vec::with_capacity(alloc, len)?;
+    let first = Known {
+        class: 0,
+        outcome: class_outcome(results, 0),
+    };
+    let mut known = vec![in alloc; first; SLOTS]?;
+    let part = fill(results, &mut known, classes, len, none)?;
+    Ok(part)
 }

@@ -4,6 +4,7 @@ pub mod WindowLemmas
 pub mod ExtremeLemmas
 pub mod SumLemmas
 pub mod ColumnLemmas
+pub mod CountLemmas
 pub mod ClassLemmas
 pub mod AroundLemmas
 pub mod OneCellLemmas

@@ -7,11 +7,13 @@
 
 mod classes;
 mod columns;
+mod counts;
 mod extremes;
 mod laws;
 mod outcomes;
 mod part;
 mod reach;
+mod strip;
 mod sum;
 mod sums;
 

@@ -1,8 +1,9 @@
 -- The leader of a class: its most frequent number, and how many different ones there are.
-use Rattle.std.specs.Prelude.{◌+◌, ℕ, ℤ, pos, ◌*◌, List, [], ◌∷◌, Bool, ◌==◌, ◌&&◌, ◌||◌, nat_lt, int_lt, Option, Some, None, Ok}
-use Rattle.std.specs.Prelude.{if◌then◌else◌}
+use Rattle.std.specs.Prelude.{◌≡◌, ◌+◌, ℕ, ℤ, pos, ◌*◌, List, [], ◌∷◌, Bool, ◌==◌, ◌&&◌, ◌||◌, nat_lt, int_lt, Option, Some, None, Ok}
+use Rattle.std.specs.Prelude.{if◌then◌else◌, length}
 use Rattle.std.specs.Option.{unwrap_or}
 use Rattle.std.specs.Ordering.{int_eq}
+use Rattle.std.specs.List.{All}
 use Rattle.std.specs.Map.{lookup}
 use Rattle.cell_values.specs.declared.kind.Kind.TheVariants.{Scalar}
 use Rattle.cell_values.specs.declared.cell.Cell.{Cell}
@@ -13,7 +14,9 @@ use Rattle.tile_map.specs.Parts.{Outcome}
 use Rattle.region_meaning.specs.declared.area.AreaOp.{AreaOp}
 use Rattle.region_meaning.specs.declared.area.AreaOp.TheVariants.{Diversity}
 use Rattle.area_ops.specs.declared.leader.Leader.{Leader}
+use Rattle.area_ops.specs.declared.results.Known.{Known}
 use Rattle.area_ops.specs.inside.Counts.{Member}
+use Rattle.area_ops.specs.inside.Runs.{slots}
 
 -- a number that stands so many times goes ahead of a leader: it is more frequent, or as frequent and less
 abbrev pub takes_lead : Leader → ℤ → ℕ → Bool
@@ -55,3 +58,8 @@ class_result entries class = unwrap_or (lookup (λ own. int_eq class own) entrie
 abbrev pub place_result : List (ℤ × Outcome) → Cell → Outcome
 place_result entries Mv = Ok Mv
 place_result entries (Val class) = class_result entries class
+
+-- what is kept of the outcomes of classes is right, one of them at each slot
+pub record AreKnown (entries : List (ℤ × Outcome)) (known : List Known) : Type 0 where
+  pub size : length known ≡ slots
+  pub right : All (λ k. k.outcome ≡ class_result entries k.class) known
