@@ -1,7 +1,9 @@
 -- What the crates above cite.
 
 -- border edges, and who feeds and who is fed
-pub use Rattle.border_channel.proofs.EdgeLemmas.{drains_tributary, edges_listed, fed_apart, fed_feeds, fed_within, feeders_apart, feeds_fed}
+pub use Rattle.border_channel.proofs.EdgeLemmas.{all_within, drains_tributary, edges_listed, fed_apart, fed_feeds, fed_within, feeders_apart, feeds_fed}
+-- lists of places that rise
+pub use Rattle.border_channel.proofs.EdgeLemmas.{Rises, filter_rises, range_rises, rises_index}
 pub use Rattle.border_channel.proofs.InsideLemmas.{AreNear, fed_near}
 pub use Rattle.border_channel.proofs.DrainingLemmas.{place_within}
 -- loads, and flows that fit them

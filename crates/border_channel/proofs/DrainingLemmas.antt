@@ -1,23 +1,33 @@
 -- The cells of some places that drain into a cell, and the border edges to them.
-use Rattle.std.proofs.Common.{append_assoc, ◌≡◌, ◌≢◌, ◌⊎◌, ℕ, ◌+◌, ◌-◌, ◌*◌, ◌/◌, ◌%◌, ◌<◌, ◌≤◌, List, [], ◌∷◌, ◌++◌, length, map, refl, sym, ap, subst, ◌∙◌, arith, suc, zero, inl, inr, true, false, min, take, get_or}
+use Rattle.std.proofs.Common.{append_assoc, ◌≡◌, ◌≢◌, ◌⊎◌, ℕ, ◌+◌, ◌-◌, ◌*◌, ◌/◌, ◌%◌, ◌<◌, ◌≤◌, List, [], ◌∷◌, ◌++◌, length, map, refl, sym, ap, subst, ◌∙◌, arith, suc, zero, inl, inr, Bool, true, false, min, take, get_or}
 use Rattle.std.specs.List.{filter, range_with_len}
 use Rattle.std.proofs.Math.Seq.{take-suc}
+use Rattle.std.specs.Prelude.{ℤ, pos, not, ◌==◌}
+use Rattle.std.specs.Ordering.{int_eq}
+use Rattle.std.proofs.lemmas.Bool.{and_parts, cases_Bool, eq-eqb}
+use Rattle.std.proofs.lemmas.Bool.Decides.{Decides-int_eq}
+use Rattle.std.proofs.lemmas.Int.{ints}
 use Rattle.std.proofs.lemmas.List.{append-nil, map-append}
 use Rattle.std.proofs.lemmas.List.Elements.{filter-append}
-use Rattle.std.proofs.lemmas.Nat.{div_below, div-add-mod', mod-mul-add, mod_below, mul-le}
+use Rattle.std.proofs.lemmas.Nat.{div_below, div-add-mod', div-mul-add, mod-mul-add, mod_below, mul-le}
+use Rattle.cell_values.specs.declared.cell.Cell.{Cell}
+use Rattle.cell_values.specs.declared.cell.Cell.TheVariants as cell
+use Rattle.cell_values.specs.declared.kind.Kind.TheVariants.{Ldd}
+use Rattle.cell_values.specs.Kinds.{IsCell}
+use Rattle.tile_map.specs.Cuts.{cell_at}
 use Rattle.tile_map.specs.declared.tiling.Tiling.{Tiling}
 use Rattle.tile_map.proofs.Callers.{range-append}
 use Rattle.drain_meaning.specs.declared.next.Next.TheVariants as next
-use Rattle.drain_meaning.specs.Drains.{DrainMap, next_at}
+use Rattle.drain_meaning.specs.Drains.{DrainMap, col_on, next_at, row_on}
 use Rattle.drain_meaning.specs.Sound.{IsDrain}
 use Rattle.drain_meaning.specs.Transports.{drains_into, outlet}
 use Rattle.drain_meaning.specs.declared.next.Next.{Next}
 use Rattle.drain_meaning.specs.declared.op.Orient.{Orient}
 use Rattle.drain_meaning.specs.declared.op.Orient.TheVariants.{Down, Up}
-use Rattle.drain_meaning.proofs.Callers.{drains_tells, neighbours}
+use Rattle.drain_meaning.proofs.Callers.{LeadsTo, col_there, directed, directs, drains_tells, neighbours, row_there}
 use Rattle.border_channel.specs.declared.edge.Edge.{Edge}
 use Rattle.border_channel.specs.Edges.{HasSizeOf, crosses, crossing, edge, fed_by}
-use Rattle.border_channel.specs.inside.Draining.{draining}
+use Rattle.border_channel.specs.inside.Draining.{draining, has_code}
 
 -- so many places and then so many more
 pub draining_split : (m : DrainMap) (u from a b : ℕ) → draining m u from (a + b) ≡ draining m u from a ++ draining m u (from + a) b
@@ -53,6 +63,16 @@ stretch_more m u from place old now new one low is more e =
     let split : draining m u from (place + 1 - from) ≡ draining m u from (place - from) ++ one =
     ap (draining m u from) many ∙ (draining_split m u from (place - from) 1 ∙ ap (λ (y : List ℕ). draining m u from (place - from) ++ y) (ap (λ (y : ℕ). draining m u y 1) there ∙ more)) in
     e ∙ (ap (λ (y : List ℕ). y ++ one) is ∙ (append_assoc old (draining m u from (place - from)) one ∙ ap (λ (y : List ℕ). old ++ y) (sym split)))
+
+-- the same in a row that begins at a place
+pub stretch_on : (m : DrainMap) (u start left at : ℕ) (old now new one : List ℕ) → left ≤ at →
+    now ≡ old ++ draining m u (start + left) (at - left) → draining m u (start + at) 1 ≡ one → new ≡ now ++ one →
+    new ≡ old ++ draining m u (start + left) (at + 1 - left)
+stretch_on m u start left at old now new one low is more e =
+    let before : at - left ≡ (start + at) - (start + left) = omega arith in
+    let after : (start + at) + 1 - (start + left) ≡ at + 1 - left = omega arith in
+    stretch_more m u (start + left) (start + at) old now new one (omega (arith, low)) (is ∙ ap (λ (n : ℕ). old ++ draining m u (start + left) n) before) more e
+    ∙ ap (λ (n : ℕ). old ++ draining m u (start + left) n) after
 
 -- the column of a place of a row
 place_col : (line cols v : ℕ) → line * cols ≤ v → v < line * cols + cols → v % cols ≡ v - line * cols
@@ -178,3 +198,96 @@ crossing_more g u cells k old now new low is e =
     e ∙ (ap (λ (y : List Edge). y ++ crossing g u (get_or cells k 0 ∷ [])) is
     ∙ (append_assoc old (crossing g u (take k cells)) (crossing g u (get_or cells k 0 ∷ []))
     ∙ ap (λ (y : List Edge). old ++ y) (sym (ap (crossing g u) more ∙ crossing-append g u (take k cells) (get_or cells k 0 ∷ [])))))
+
+-- ---- the code by which a place drains into a cell next to it
+
+-- the code that leads from one row and column to another, next to it, as on a numeric keypad
+abbrev pub code_toward : ℕ → ℕ → ℕ → ℕ → ℕ
+code_toward row col line at = (line + 1 - row) * 3 + (col + 1 - at) + 1
+
+-- a cell lies next to a place, by rows and columns
+pub record IsBeside (m : DrainMap) (row col line at : ℕ) : Type 0 where
+  pub row_in : row < m.rows
+  pub col_in : col < m.cols
+  pub at_in : at < m.cols
+  pub above : row ≤ line + 1
+  pub below : line ≤ row + 1
+  pub left : col ≤ at + 1
+  pub right : at ≤ col + 1
+
+not_on : (o : Bool) → not o ≡ true → o ≡ false
+not_on true e = cc e
+not_on false e = refl
+
+coded_so : (wanted : ℕ) (code : Cell) → has_code wanted code ≡ true → (code ≡ cell.Val (pos wanted)) × ((wanted == 5) ≡ false)
+coded_so wanted cell.Mv e = cc e
+coded_so wanted (cell.Val n) e =
+    let both = and_parts (not (wanted == 5)) (int_eq n (pos wanted)) e in
+    (ap (λ (z : ℤ). cell.Val z) ((Decides-int_eq n (pos wanted)).0 both.1), not_on (wanted == 5) both.0)
+
+has_it : (wanted : ℕ) (code : Cell) → code ≡ cell.Val (pos wanted) → (wanted == 5) ≡ false → has_code wanted code ≡ true
+has_it wanted code e other =
+    let same : int_eq (pos wanted) (pos wanted) ≡ true = (Decides-int_eq (pos wanted) (pos wanted)).1 refl in
+    rw (e, other) same
+
+-- the code that leads there is the one
+leading_code : (m : DrainMap) (row col line at k : ℕ) → IsBeside m row col line at → LeadsTo m.rows m.cols (line + row_on k) (at + col_on k) (row * m.cols + col) → 1 ≤ k → k ≤ 9 → k ≡ code_toward row col line at
+leading_code m row col line at k b l low high =
+    let r : row ≡ line + row_on k - 1 = sym (div-mul-add row m.cols col b.col_in) ∙ row_there m.rows m.cols _ _ _ l in
+    let c : col ≡ at + col_on k - 1 = sym (mod-mul-add row m.cols col b.col_in) ∙ col_there m.rows m.cols _ _ _ l in
+    let whole = div-add-mod' (k - 1) 3 in
+    let small = mod_below (k - 1) 3 (omega arith) in
+    let rows : (k - 1) / 3 ≤ 2 = omega (arith, whole, high) in
+    omega (arith, r, c, whole, small, rows, low, l.from_row, l.from_col)
+
+-- and it leads there
+code_leads : (m : DrainMap) (row col line at : ℕ) → IsBeside m row col line at → LeadsTo m.rows m.cols (line + row_on (code_toward row col line at)) (at + col_on (code_toward row col line at)) (row * m.cols + col)
+code_leads m row col line at b =
+    let k : ℕ = code_toward row col line at in
+    let less : col + 1 - at < 3 = omega (arith, b.left, b.right) in
+    let before : k - 1 ≡ (line + 1 - row) * 3 + (col + 1 - at) = omega arith in
+    let rows : (k - 1) / 3 ≡ line + 1 - row = ap (λ (n : ℕ). n / 3) before ∙ div-mul-add (line + 1 - row) 3 (col + 1 - at) less in
+    let cols : (k - 1) % 3 ≡ col + 1 - at = ap (λ (n : ℕ). n % 3) before ∙ mod-mul-add (line + 1 - row) 3 (col + 1 - at) less in
+    let r : line + row_on k ≡ row + 1 = omega (arith, rows, b.above, b.below) in
+    let c : at + col_on k ≡ col + 1 = omega (arith, cols, b.left, b.right) in
+    record {
+      from_row = omega (arith, r);
+      to_row = omega (arith, r, b.row_in);
+      from_col = omega (arith, c);
+      to_col = omega (arith, c, b.col_in);
+      there = (let one : line + row_on k - 1 ≡ row = omega (arith, r) in let two : at + col_on k - 1 ≡ col = omega (arith, c) in ap (λ (n : ℕ). n * m.cols + (at + col_on k - 1)) one ∙ ap (λ (n : ℕ). row * m.cols + n) two);
+    }
+
+in_range : (k : ℕ) → IsCell Ldd (cell.Val (pos k)) → (1 ≤ k) × (k ≤ 9)
+in_range k is = (omega (arith, ints, is.least), omega (arith, ints, is.greatest))
+
+-- a place has this code exactly where it drains into the cell
+pub drains_by : (m : DrainMap) → IsDrain m → (row col line at : ℕ) → IsBeside m row col line at →
+    has_code (code_toward row col line at) (cell_at m.codes (line * m.cols + at)) ≡ drains_into (row * m.cols + col) (next_at m (line * m.cols + at))
+unfolding next_at
+drains_by m drain row col line at b =
+    let u : ℕ = row * m.cols + col in
+    let v : ℕ = line * m.cols + at in
+    let code : Cell = cell_at m.codes v in
+    let k : ℕ = code_toward row col line at in
+    let v_row : v / m.cols ≡ line = div-mul-add line m.cols at b.at_in in
+    let v_col : v % m.cols ≡ at = mod-mul-add line m.cols at b.at_in in
+    elim (drains_tells (next_at m v) u) as (λ _. has_code k code ≡ drains_into u (next_at m v)) [
+      | inl there ↦
+          let d = directs m.rows m.cols v code u there in
+          let within = in_range d.number (subst (λ (z : Cell). IsCell Ldd z) d.coded (drain.map.each v)) in
+          let leads : LeadsTo m.rows m.cols (line + row_on d.number) (at + col_on d.number) u =
+          subst (λ (n : ℕ). LeadsTo m.rows m.cols (n + row_on d.number) (at + col_on d.number) u) v_row (subst (λ (n : ℕ). LeadsTo m.rows m.cols (v / m.cols + row_on d.number) (n + col_on d.number) u) v_col d.leads) in
+          let same = leading_code m row col line at d.number b leads within.0 within.1 in
+          let on : drains_into u (next_at m v) ≡ true = ap (drains_into u) there ∙ eq-eqb u u refl in
+          has_it k code (d.coded ∙ ap (λ (n : ℕ). cell.Val (pos n)) same) (ap (λ (n : ℕ). n == 5) (sym same) ∙ d.no_pit) ∙ sym on
+      | inr off ↦ elim (cases_Bool (has_code k code)) as (λ _. has_code k code ≡ drains_into u (next_at m v)) [
+        | inl has ↦
+            let so = coded_so k code has in
+            let leads : LeadsTo m.rows m.cols (v / m.cols + row_on k) (v % m.cols + col_on k) u =
+            subst (λ (n : ℕ). LeadsTo m.rows m.cols (n + row_on k) (v % m.cols + col_on k) u) (sym v_row) (subst (λ (n : ℕ). LeadsTo m.rows m.cols (line + row_on k) (n + col_on k) u) (sym v_col) (code_leads m row col line at b)) in
+            let there : next_at m v ≡ next.Cell u = directed m.rows m.cols v k code u so.0 so.1 leads in
+            absurd (let on : drains_into u (next_at m v) ≡ true = ap (drains_into u) there ∙ eq-eqb u u refl in cc (on, off))
+        | inr none ↦ none ∙ sym off
+      ]
+    ]

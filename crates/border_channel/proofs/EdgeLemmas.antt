@@ -104,7 +104,7 @@ append_ascends (x ∷ xs) ys one two between = (
 )
 
 -- numbers that ascend
-abbrev Rises : List ℕ → Type 0
+abbrev pub Rises : List ℕ → Type 0
 Rises [] = Unit {0}
 Rises (x ∷ xs) = ((y : ℕ) → Contains xs y → x < y) × Rises xs
 
@@ -112,7 +112,8 @@ range_from : (from n y : ℕ) → Contains (range_with_len from n) y → from �
 range_from from zero y h = absurd (omega (arith, h.1))
 range_from from (suc n) y h = elim (contains_cases from (range_with_len (from + 1) n) y h) as (λ _. from ≤ y) [ inl same ↦ omega (arith, same) | inr later ↦ let low = range_from (from + 1) n y later in omega (arith, low) ]
 
-range_rises : (from n : ℕ) → Rises (range_with_len from n)
+-- places in a row rise
+pub range_rises : (from n : ℕ) → Rises (range_with_len from n)
 range_rises from zero = tt
 range_rises from (suc n) = ((λ y h. let low = range_from (from + 1) n y h in omega (arith, low)), range_rises (from + 1) n)
 
@@ -120,9 +121,17 @@ filter_rises_by : (p : ℕ → Bool) (x : ℕ) (xs : List ℕ) (o : Bool) → ((
 filter_rises_by p x xs true low rest = ((λ y h. low y (kept_passes p xs y h).1), rest)
 filter_rises_by p x xs false low rest = rest
 
-filter_rises : (p : ℕ → Bool) (xs : List ℕ) → Rises xs → Rises (filter p xs)
+-- what is left of a list that rises does so
+pub filter_rises : (p : ℕ → Bool) (xs : List ℕ) → Rises xs → Rises (filter p xs)
 filter_rises p [] r = tt
 filter_rises p (x ∷ xs) r = filter_rises_by p x xs (p x) r.0 (filter_rises p xs r.1)
+
+-- of two places in a list that rises the later has the greater number
+pub rises_index : (xs : List ℕ) → Rises xs → (i j : ℕ) → i < j → j < length xs → get_or xs i 0 < get_or xs j 0
+rises_index [] r i j less low = absurd (omega arith)
+rises_index (x ∷ xs) r i zero less low = absurd (omega arith)
+rises_index (x ∷ xs) r zero (suc j) less low = r.0 (get_or xs j 0) (j, omega arith, get_or_default xs j (get_or xs j 0) 0 (omega arith))
+rises_index (x ∷ xs) r (suc i) (suc j) less low = rises_index xs r.1 i j (omega arith) (omega arith)
 
 outlet_rises : (n : Next) → Rises (outlet n)
 outlet_rises (next.Cell d) = ((λ y h. absurd (omega (arith, h.1))), tt)

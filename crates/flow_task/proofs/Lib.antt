@@ -1,0 +1,15 @@
+pub mod Accepting
+pub mod Beginning
+pub mod Begun
+pub mod Counting
+pub mod DueLemmas
+pub mod Ending
+pub mod Keeping
+pub mod Marking
+pub mod Noting
+pub mod PackedLemmas
+pub mod Receiving
+pub mod Sending
+pub mod Settling
+pub mod Turns
+pub mod Within

@@ -4,8 +4,17 @@
 //! parameter, so a kit that knows more transports changes nothing in them.
 #![tactic(auto)]
 
+mod about;
 mod base;
+mod begin;
+mod due;
 mod kit;
+mod link;
+mod packed;
+mod settle;
+mod state;
+mod work;
 
 pub use base::{BaseKit, BaseWork};
 pub use kit::FlowKit;
+pub use work::FlowWork;

@@ -1,0 +1,7 @@
+pub mod Abouts
+pub mod Begins
+pub mod Due
+pub mod Kept
+pub mod Packed
+pub mod States
+pub mod Underway
