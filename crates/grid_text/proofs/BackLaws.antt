@@ -28,114 +28,9 @@ use Rattle.grid_text.specs.Form.{Pair, tokens_of_pairs, names, is_pair_of, pairs
 use Rattle.grid_text.specs.Written.{key_line, head_lines, behind_cell, row_line, row_lines, written_grid, text_of, AreGridValues, WrittenGridsReadBack}
 use Rattle.text_base.specs.inside.Steps.{is_token_byte}
 use Rattle.text_base.proofs.Callers.{IsTokenWord, bool_cases, decimal_digits, digits_token, head_is, ok_is, option_cases, tail_is, tokens_at-blank, tokens_at-run, whole_number_of-decimal}
+use Rattle.grid_text.proofs.WordLaws.{decimal_token, flat, head_pairs, head_words, rows_words}
 use Rattle.grid_text.proofs.ValueLaws.{word_none, nodata_missing, cell_missing, cell_there}
 use Rattle.grid_text.proofs.Laws.{keyed_of, grid_is}
-
--- ---- words that are tokens
-
-visible : (b : ℕ) → 32 < b → is_token_byte b ≡ true
-visible b above =
-    let other = λ (k : ℕ) (low : k < 33). ne_eqb b k (λ (e : b ≡ k). omega (arith, e, above, low)) in
-    rw (other 32 (lit< tt), other 9 (lit< tt), other 13 (lit< tt), other 10 (lit< tt)) refl
-
-decimal_token : (word : List ℕ) → IsDecimalText word → IsTokenWord word
-decimal_token word d = record { some = decimal-some word d; bytes = decimal-visible is_token_byte visible word d }
-
-some_token : (word : List ℕ) → is_some (decimal_of word) ≡ true → IsTokenWord word
-some_token word e = decimal_token word (text-from_some word e)
-
-positive_some : (o : Option Decimal) → is_positive o ≡ true → is_some o ≡ true
-positive_some None e = absurd (cc)
-positive_some (Some d) e = refl
-
-coordinate_token : (word : List ℕ) → is_coordinate word ≡ true → IsTokenWord word
-coordinate_token word e = some_token word (and_parts (nat_le (length word) 64) (is_some (decimal_of word)) e).1
-
-size_token : (word : List ℕ) → is_cell_size word ≡ true → IsTokenWord word
-size_token word e = some_token word (positive_some (decimal_of word) (and_parts (nat_le (length word) 64) (is_positive (decimal_of word)) e).1)
-
--- ---- the words of a text
-
--- the words of these bytes, wherever they stand
-pub record HasWords (bytes : List ℕ) (words : List (List ℕ)) : Type 0 where
-  found : (at : ℕ) → map (λ (t : Token). t.bytes) (tokens_at at bytes) ≡ words
-
-no_words : HasWords [] []
-no_words = record { found = λ at. refl }
-
--- a word and a blank in front
-word_front : (word rest : List ℕ) (blank : ℕ) (words : List (List ℕ)) → IsTokenWord word → is_blank blank ≡ true → HasWords rest words → HasWords (word ++ blank ∷ rest) (word ∷ words)
-word_front [] rest blank words t b h = absurd (omega (arith, t.some))
-word_front (c ∷ cs) rest blank words t b h = record {
-  found = λ at.
-      ap (map (λ (w : Token). w.bytes)) (tokens_at-run at c cs (blank ∷ rest) t.bytes b)
-      ∙ ap (λ ws. (c ∷ cs) ∷ ws) (ap (map (λ (w : Token). w.bytes)) (tokens_at-blank (at + suc (length cs)) blank rest b) ∙ h.found (at + suc (length cs) + 1));
-}
-
-line_front : (key value rest : List ℕ) (words : List (List ℕ)) → IsTokenWord key → IsTokenWord value → HasWords rest words → HasWords (key_line key value ++ rest) (key ∷ value ∷ words)
-line_front key value rest words k v h =
-    subst (λ bytes. HasWords bytes (key ∷ value ∷ words)) (sym (append_assoc key (32 ∷ (value ++ 10 ∷ [])) rest ∙ ap (λ (more : List ℕ). key ++ 32 ∷ more) (append_assoc value (10 ∷ []) rest)))
-    (word_front key (value ++ 10 ∷ rest) 32 (value ∷ words) k refl (word_front value rest 10 words v refl h))
-
--- a line of several
-lines_front : (key value more rest : List ℕ) (words : List (List ℕ)) → IsTokenWord key → IsTokenWord value → HasWords (more ++ rest) words → HasWords ((key_line key value ++ more) ++ rest) (key ∷ value ∷ words)
-lines_front key value more rest words k v h = subst (λ bytes. HasWords bytes (key ∷ value ∷ words)) (sym (append_assoc (key_line key value) more rest)) (line_front key value (more ++ rest) words k v h)
-
--- ---- the words of the rows
-
-blank_behind : (cells : List Cell) → is_blank (behind_cell cells) ≡ true
-blank_behind [] = refl
-blank_behind (cell ∷ cells) = refl
-
-row_words : (kind : Kind) (cells : List Cell) (rest : List ℕ) (words : List (List ℕ)) → All (IsCell kind) cells → HasWords rest words → HasWords (row_line kind cells ++ rest) (map (printed_cell kind) cells ++ words)
-row_words kind [] rest words are h = h
-row_words kind (cell ∷ cells) rest words are h =
-    subst (λ bytes. HasWords bytes (printed_cell kind cell ∷ (map (printed_cell kind) cells ++ words))) (sym (append_assoc (printed_cell kind cell) (behind_cell cells ∷ row_line kind cells) rest))
-    (word_front (printed_cell kind cell) (row_line kind cells ++ rest) (behind_cell cells) (map (printed_cell kind) cells ++ words) (decimal_token (printed_cell kind cell) (printed-decimal kind cell (All-head (IsCell kind) cell cells are))) (blank_behind cells)
-    (row_words kind cells rest words (All-tail (IsCell kind) cell cells are) h))
-
-rows_words : (kind : Kind) (rows cols : ℕ) (cells : List Cell) → All (IsCell kind) cells → length cells ≡ rows * cols → HasWords (row_lines kind rows cols cells) (map (printed_cell kind) cells)
-rows_words kind zero cols cells are count =
-    let none : cells ≡ [] = nil_from_length cells (omega (arith, count)) in
-    subst (λ cs. HasWords [] (map (printed_cell kind) cs)) (sym none) no_words
-rows_words kind (suc rows) cols cells are count =
-    let left : length (drop cols cells) ≡ rows * cols = omega (arith, length-drop cols cells, count) in
-    subst (HasWords (row_lines kind (suc rows) cols cells)) (sym (map-append (printed_cell kind) (take cols cells) (drop cols cells)) ∙ ap (map (printed_cell kind)) (take-append-drop cols cells))
-    (row_words kind (take cols cells) (row_lines kind rows cols (drop cols cells)) (map (printed_cell kind) (drop cols cells)) (All-take (IsCell kind) cols cells are)
-    (rows_words kind rows cols (drop cols cells) (All-drop (IsCell kind) cols cells are) left))
-
--- ---- the words of the head
-
--- the words of the pairs
-abbrev head_pairs : ℕ → ℕ → Head → List (List ℕ × List ℕ)
-head_pairs rows cols h =
-    (codes "ncols", decimal cols) ∷ (codes "nrows", decimal rows)
-    ∷ (cond h.x_center (codes "xllcenter") (codes "xllcorner"), h.x) ∷ (cond h.y_center (codes "yllcenter") (codes "yllcorner"), h.y)
-    ∷ (codes "cellsize", h.size) ∷ (codes "NODATA_value", codes "1e31") ∷ []
-
-abbrev flat : List (List ℕ × List ℕ) → List (List ℕ)
-flat [] = []
-flat (kv ∷ kvs) = kv.0 ∷ kv.1 ∷ flat kvs
-
-center_token : (center : Bool) (one other : List ℕ) → IsTokenWord one → IsTokenWord other → IsTokenWord (cond center one other)
-center_token true one other a b = a
-center_token false one other a b = b
-
-head_words : (rows cols : ℕ) (h : Head) (rest : List ℕ) (words : List (List ℕ)) → rows < 2 ^ 64 → cols < 2 ^ 64 → is_coordinate h.x ≡ true → is_coordinate h.y ≡ true → is_cell_size h.size ≡ true → HasWords rest words
-    → HasWords (head_lines rows cols h ++ (key_line (codes "NODATA_value") (codes "1e31") ++ rest)) (flat (head_pairs rows cols h) ++ words)
-head_words rows cols h rest words few_rows few_cols x y size found =
-    let x_key = cond h.x_center (codes "xllcenter") (codes "xllcorner") in
-    let y_key = cond h.y_center (codes "yllcenter") (codes "yllcorner") in
-    let last : List ℕ = key_line (codes "NODATA_value") (codes "1e31") ++ rest in
-    let size_line = key_line (codes "cellsize") h.size in
-    let y_line = key_line y_key h.y in
-    let x_line = key_line x_key h.x in
-    lines_front (codes "ncols") (decimal cols) (key_line (codes "nrows") (decimal rows) ++ (x_line ++ (y_line ++ size_line))) last _ (record { some = lit< tt; bytes = refl }) (digits_token _ (decimal_digits cols few_cols))
-    (lines_front (codes "nrows") (decimal rows) (x_line ++ (y_line ++ size_line)) last _ (record { some = lit< tt; bytes = refl }) (digits_token _ (decimal_digits rows few_rows))
-    (lines_front x_key h.x (y_line ++ size_line) last _ (center_token h.x_center (codes "xllcenter") (codes "xllcorner") (record { some = lit< tt; bytes = refl }) (record { some = lit< tt; bytes = refl })) (coordinate_token h.x x)
-    (lines_front y_key h.y size_line last _ (center_token h.y_center (codes "yllcenter") (codes "yllcorner") (record { some = lit< tt; bytes = refl }) (record { some = lit< tt; bytes = refl })) (coordinate_token h.y y)
-    (line_front (codes "cellsize") h.size last _ (record { some = lit< tt; bytes = refl }) (size_token h.size size)
-    (line_front (codes "NODATA_value") (codes "1e31") rest words (record { some = lit< tt; bytes = refl }) (record { some = lit< tt; bytes = refl }) found)))))
 
 -- ---- the tokens of words
 
@@ -164,7 +59,7 @@ split_of (kv ∷ kvs) words (t ∷ u ∷ ts) e =
     }
 
 -- what the pairs of a key say is said by their words
-abbrev named : Key → List (List ℕ × List ℕ) → List (List ℕ × List ℕ)
+abbrev pub named : Key → List (List ℕ × List ℕ) → List (List ℕ × List ℕ)
 named key kvs = filter (λ kv. names (key_of kv.0) key) kvs
 
 named_pairs : (key : Key) (pairs : List Pair) → map (λ (p : Pair). (p.word.bytes, p.value.bytes)) (pairs_of key pairs) ≡ named key (map (λ (p : Pair). (p.word.bytes, p.value.bytes)) pairs)
@@ -181,14 +76,14 @@ map_map : {A B C : Type 0} (f : A → B) (g : B → C) (xs : List A) → map (λ
 map_map f g [] = refl
 map_map f g (x ∷ xs) = ap (λ ys. g (f x) ∷ ys) (map_map f g xs)
 
-values_named : (key : Key) (pairs : List Pair) (kvs found : List (List ℕ × List ℕ)) → map (λ (p : Pair). (p.word.bytes, p.value.bytes)) pairs ≡ kvs → named key kvs ≡ found → values_of key pairs ≡ map (λ kv. kv.1) found
+pub values_named : (key : Key) (pairs : List Pair) (kvs found : List (List ℕ × List ℕ)) → map (λ (p : Pair). (p.word.bytes, p.value.bytes)) pairs ≡ kvs → named key kvs ≡ found → values_of key pairs ≡ map (λ kv. kv.1) found
 values_named key pairs kvs found e n = map_map (λ (p : Pair). (p.word.bytes, p.value.bytes)) (λ kv. kv.1) (pairs_of key pairs) ∙ ap (map (λ kv. kv.1)) (named_pairs key pairs ∙ ap (named key) e ∙ n)
 
 -- a place, by the words of its pair
-abbrev placed_words : List ℕ × List ℕ → Bool × List ℕ
+abbrev pub placed_words : List ℕ × List ℕ → Bool × List ℕ
 placed_words kv = (is_center kv.0, kv.1)
 
-placed_named : (key : Key) (pairs : List Pair) (kvs found : List (List ℕ × List ℕ)) → map (λ (p : Pair). (p.word.bytes, p.value.bytes)) pairs ≡ kvs → named key kvs ≡ found → map placed (pairs_of key pairs) ≡ map placed_words found
+pub placed_named : (key : Key) (pairs : List Pair) (kvs found : List (List ℕ × List ℕ)) → map (λ (p : Pair). (p.word.bytes, p.value.bytes)) pairs ≡ kvs → named key kvs ≡ found → map placed (pairs_of key pairs) ≡ map placed_words found
 placed_named key pairs kvs found e n = map_map (λ (p : Pair). (p.word.bytes, p.value.bytes)) placed_words (pairs_of key pairs) ∙ ap (map placed_words) (named_pairs key pairs ∙ ap (named key) e ∙ n)
 
 valued_words : (pairs : List Pair) (kvs : List (List ℕ × List ℕ)) → map (λ (p : Pair). (p.word.bytes, p.value.bytes)) pairs ≡ kvs → list_all (λ kv. may_stand (key_of kv.0) kv.1) kvs ≡ true → list_all is_head_pair pairs ≡ true
@@ -202,7 +97,7 @@ valued_words (p ∷ ps) (kv ∷ kvs) e all =
 -- ---- the head
 
 -- which of the pairs has each key
-record AreNamed (rows cols : ℕ) (h : Head) : Type 0 where
+pub record AreNamed (rows cols : ℕ) (h : Head) : Type 0 where
   has_cols : named Cols (head_pairs rows cols h) ≡ (codes "ncols", decimal cols) ∷ []
   has_rows : named Rows (head_pairs rows cols h) ≡ (codes "nrows", decimal rows) ∷ []
   has_x : map placed_words (named X (head_pairs rows cols h)) ≡ (h.x_center, h.x) ∷ []
@@ -231,7 +126,7 @@ missing_stands : is_nodata (codes "1e31") ≡ true
 unfolding decimal_of
 missing_stands = refl
 
-written_side : (n : ℕ) → 0 < n → n ≤ 4194304 → side_of (decimal n) ≡ Some n
+pub written_side : (n : ℕ) → 0 < n → n ≤ 4194304 → side_of (decimal n) ≡ Some n
 unfolding side_of
 written_side n some few =
     ap (option_and_then above_zero) (whole_number_of-decimal 7 n (lit< tt) (omega (arith, few)) (omega (arith, few)))
@@ -244,7 +139,7 @@ pairs_stand rows cols h r c x y size =
     (and_from _ _ (x_stands h.x_center h.x x) (and_from _ _ (y_stands h.y_center h.y y)
     (and_from _ _ size (and_from _ _ missing_stands refl)))))
 
-head_back : (pairs : List Pair) (rows cols : ℕ) (h : Head) → map (λ (p : Pair). (p.word.bytes, p.value.bytes)) pairs ≡ head_pairs rows cols h → side_of (decimal rows) ≡ Some rows → side_of (decimal cols) ≡ Some cols → is_coordinate h.x ≡ true → is_coordinate h.y ≡ true → is_cell_size h.size ≡ true → IsSize rows cols
+pub head_back : (pairs : List Pair) (rows cols : ℕ) (h : Head) → map (λ (p : Pair). (p.word.bytes, p.value.bytes)) pairs ≡ head_pairs rows cols h → side_of (decimal rows) ≡ Some rows → side_of (decimal cols) ≡ Some cols → is_coordinate h.x ≡ true → is_coordinate h.y ≡ true → is_cell_size h.size ≡ true → IsSize rows cols
     → IsHead pairs rows cols h (codes "1e31")
 head_back pairs rows cols h e r c x y size within =
     let n = named_by rows cols h.x_center h.y_center h.x h.y h.size in
@@ -274,11 +169,11 @@ value_there kind z is =
     let apart : same_value d missing_decimal ≡ false = printed-not_missing kind z d is found in absurd (cc))))
     refl
 
-cell_back : (kind : Kind) (cell : Cell) → IsCell kind cell → cell_of_token kind (codes "1e31") (printed_cell kind cell) ≡ Ok cell
+pub cell_back : (kind : Kind) (cell : Cell) → IsCell kind cell → cell_of_token kind (codes "1e31") (printed_cell kind cell) ≡ Ok cell
 cell_back kind Mv is = sym (cell_missing kind (codes "1e31") (codes "1e31") (nodata_missing (codes "1e31") missing_stands))
 cell_back kind (Val z) is = sym (cell_there kind (codes "1e31") (printed_cell kind (Val z)) (value_there kind z is)) ∙ printed-back kind z is
 
-cells_back : (kind : Kind) (cells : List Cell) (ts : List Token) → All (IsCell kind) cells → map (λ (t : Token). t.bytes) ts ≡ map (printed_cell kind) cells → map (λ (t : Token). cell_of_token kind (codes "1e31") t.bytes) ts ≡ map (λ (c : Cell). Ok c) cells
+pub cells_back : (kind : Kind) (cells : List Cell) (ts : List Token) → All (IsCell kind) cells → map (λ (t : Token). t.bytes) ts ≡ map (printed_cell kind) cells → map (λ (t : Token). cell_of_token kind (codes "1e31") t.bytes) ts ≡ map (λ (c : Cell). Ok c) cells
 cells_back kind [] [] are e = refl
 cells_back kind [] (t ∷ ts) are e = absurd (cc)
 cells_back kind (cell ∷ cells) [] are e = absurd (cc)
@@ -293,7 +188,7 @@ no_word c cs text d letter = false_from_ne_true (is_word (c ∷ cs) text) (λ e.
     let bad : is_some nothing ≡ true = sym (ap (λ (o : Option Decimal). is_some o) (word_none c cs text letter e)) ∙ some-from_text text d in
     absurd (cc))
 
-key_none : (word : List ℕ) → IsDecimalText word → key_of word ≡ None
+pub key_none : (word : List ℕ) → IsDecimalText word → key_of word ≡ None
 unfolding key_of
 key_none word d = rw (
   no_word 110 (99 ∷ 111 ∷ 108 ∷ 115 ∷ []) word d (lit< tt),
@@ -313,7 +208,7 @@ cells_end kind (cell ∷ cells) (t ∷ ts) are e =
 
 -- ---- the grid
 
-one_of_many : (rows cols : ℕ) → 0 < rows → cols ≤ rows * cols
+pub one_of_many : (rows cols : ℕ) → 0 < rows → cols ≤ rows * cols
 one_of_many zero cols some = absurd (omega (arith, some))
 one_of_many (suc rows) cols some = omega arith
 

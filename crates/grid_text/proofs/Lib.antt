@@ -10,5 +10,7 @@ pub mod CellLaws
 pub mod ShortLaws
 pub mod ValueLaws
 pub mod ReaderLaws
+pub mod WordLaws
 pub mod BackLaws
+pub mod CutLaws
 pub mod WriteLaws

@@ -125,7 +125,7 @@ digit_below : (b : ℕ) → 64 < b → is_ascii_digit b ≡ false
 digit_below b above = and_right (nat_le 48 b) (nat_le b 57) (lt-leb b 57 (omega (arith, above)))
 
 -- a text that begins with a letter is no decimal
-letter_none : (b : ℕ) (rest : List ℕ) → 64 < b → decimal_of (b ∷ rest) ≡ None
+pub letter_none : (b : ℕ) (rest : List ℕ) → 64 < b → decimal_of (b ∷ rest) ≡ None
 unfolding decimal_of
 letter_none b rest above =
     let minus : eqb b 45 ≡ false = ne_eqb b 45 (λ e. omega (arith, e, above)) in

@@ -1,5 +1,6 @@
 -- The one text of a grid.
-use Rattle.std.specs.Prelude.{◌≡◌, ℕ, zero, suc, ◌*◌, true, List, [], ◌∷◌, ◌++◌, length, take, drop, codes, decimal, if◌then◌else◌}
+use Rattle.std.specs.Prelude.{◌≡◌, ℕ, zero, suc, ◌+◌, ◌*◌, ◌<◌, true, List}
+use Rattle.std.specs.Prelude.{[], ◌∷◌, ◌++◌, length, take, drop, slice_get, codes, decimal, if◌then◌else◌}
 use Rattle.std.specs.List.{All}
 use Rattle.text_base.specs.Bytes.{line_feed, space}
 use Rattle.cell_values.specs.declared.cell.Cell.{Cell}
@@ -65,3 +66,14 @@ WrittenGridsReadBack = (kind : Kind) (grid : Grid) → AreGridValues kind grid
 -- the values of a grid that is read can be written
 abbrev pub GridsCanBeWritten : Type 0
 GridsCanBeWritten = (kind : Kind) (text : List ℕ) (grid : Grid) → IsGrid kind text grid → AreGridValues kind grid
+
+-- the cells at all places but the last are those
+abbrev pub AgreeButTheLast : List Cell → List Cell → Type 0
+AgreeButTheLast cells written = (i : ℕ) → i + 1 < length written → slice_get cells i ≡ slice_get written i
+
+-- Where a text of such values that ends early is a grid at all, it is one of their rows, columns and head, and its cells are
+-- theirs but for the last one, which may be cut.
+abbrev pub CutGridsLoseTheLastCellAlone : Type 0
+CutGridsLoseTheLastCellAlone = (kind : Kind) (grid cut : Grid) (text lost : List ℕ) → AreGridValues kind grid
+    → text ++ lost ≡ text_of kind grid → IsGrid kind text cut
+    → (cut.rows ≡ grid.rows) × (cut.cols ≡ grid.cols) × (cut.head ≡ grid.head) × AgreeButTheLast cut.cells grid.cells

@@ -2,7 +2,7 @@
 
 ghost use Rattle.std.specs.Prelude.{◌≡◌, ◌*◌, ◌<◌, ◌≤◌, ◌++◌, length, decimal, OnOk, IfOk};
 ghost use Rattle.grid_text.specs.Form.{IsSize};
-ghost use Rattle.grid_text.specs.Written.{key_line, head_lines, row_line, written_grid, GridsCanBeWritten, WrittenGridsReadBack};
+ghost use Rattle.grid_text.specs.Written.{key_line, head_lines, row_line, written_grid, CutGridsLoseTheLastCellAlone, GridsCanBeWritten, WrittenGridsReadBack};
 
 use crate::grid::Head;
 use cell_values::{Cell, Kind, print_cell};
@@ -95,4 +95,10 @@ pub fn written_grids_read_back()
 /// What is read can be written, so it is read back from its written text.
 pub fn grids_can_be_written()
     ensures { GridsCanBeWritten }
+{}
+
+/// A written text that was cut off and is still a grid has the rows, columns and head that were written, and all cells but
+/// the last.
+pub fn cut_grids_lose_the_last_cell_alone()
+    ensures { CutGridsLoseTheLastCellAlone }
 {}
