@@ -23,16 +23,14 @@ usage_alone call (top.FolderWriteFault name) shown same = absurd (omega (arith, 
 usage_alone call (top.OutFault instead) shown same = absurd (omega (arith, same))
 usage_alone call top.Memory shown same = absurd (omega (arith, same))
 
--- where the words are no command the status is one of three
+-- where the words are no command the status is one of two
 refused_status : (call : Call) (answer : Ended) (status : ℕ) → status ≡ status_of answer → IsUsage call answer →
-    (status ≡ status_of top.Usage) ⊎ (status ≡ status_of (top.OutFault (status_of top.Usage))) ⊎ (status ≡ status_of top.Memory)
+    (status ≡ status_of top.Usage) ⊎ (status ≡ status_of (top.OutFault (status_of top.Usage)))
 refused_status call answer status is usage = by usage.said
   where
-    by : (answer ≡ top.Usage) ⊎ (answer ≡ top.OutFault (status_of top.Usage)) ⊎ (answer ≡ top.Memory) →
-        (status ≡ status_of top.Usage) ⊎ (status ≡ status_of (top.OutFault (status_of top.Usage))) ⊎ (status ≡ status_of top.Memory)
+    by : (answer ≡ top.Usage) ⊎ (answer ≡ top.OutFault (status_of top.Usage)) → (status ≡ status_of top.Usage) ⊎ (status ≡ status_of (top.OutFault (status_of top.Usage)))
     by (inl e) = inl (is ∙ ap status_of e)
-    by (inr (inl e)) = inr (inl (is ∙ ap status_of e))
-    by (inr (inr e)) = inr (inr (is ∙ ap status_of e))
+    by (inr e) = inr (is ∙ ap status_of e)
 
 -- the status of an answer of which all this is said
 pub ends_with : (call : Call) (answer : Ended) (status : ℕ) → status ≡ status_of answer → (IsVerdictKind answer → IsVerdict call answer) →

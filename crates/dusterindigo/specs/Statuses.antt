@@ -6,8 +6,8 @@ use Rattle.lue_run.specs.Answers.{Call, IsComplete, IsShown, IsUsage, IsVerdict,
 use Rattle.lue_run.specs.Lines.{status_of}
 
 -- The status is that of an answer which this call may give: for it stands all that is said of a call of `lue_plain`. Where
--- the words are no command it is that of usage, of a line that could not be written in place of usage, or of want of memory;
--- and it is that of usage only there.
+-- the words are no command it is that of usage, or of a line that could not be written in place of usage; and it is that of
+-- usage only there.
 pub record AnswersWith (call : Call) (status : ℕ) : Type 0 where
   pub answer : Ended
   pub is_its : status ≡ status_of answer
@@ -18,7 +18,7 @@ pub record AnswersWith (call : Call) (status : ℕ) : Type 0 where
   pub usage : call.command ≡ None → IsUsage call answer
   pub counts : KeepsCounts call
   pub refused : call.command ≡ None
-      → (status ≡ status_of Usage) ⊎ (status ≡ status_of (OutFault (status_of Usage))) ⊎ (status ≡ status_of Memory)
+      → (status ≡ status_of Usage) ⊎ (status ≡ status_of (OutFault (status_of Usage)))
   pub only : status ≡ status_of Usage → call.command ≡ None
 
 -- the status is that of an answer, or the one where the words cannot be had

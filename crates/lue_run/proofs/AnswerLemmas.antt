@@ -5,11 +5,11 @@ use Rattle.outside_io.specs.State.{FolderState, Rose, SinkState, WroteFront}
 use Rattle.outside_io.specs.Counts.{raised}
 use Rattle.outside_io.specs.Causes.{RunOutcome, CameTo, CutOff, ReadFault, WriteFault, NoMemory}
 use Rattle.outside_io.specs.Met.{Follows}
-use Rattle.outside_io.proofs.Callers.{if_told, meets_forgotten}
+use Rattle.outside_io.proofs.Callers.{if_told}
 use Rattle.run_session.specs.Ends.{RanToEnd, Missing, TooLong, Script, Input, TooManyTasks, Overflow}
 use Rattle.lue_run.specs.declared.ended.Ended.{Ended}
 use Rattle.lue_run.specs.declared.ended.Ended.TheVariants as top
-use Rattle.lue_run.specs.Ends.{CourseEnd, Usage, OfScript, OfModel, why_of, end_answer, answer_for}
+use Rattle.lue_run.specs.Ends.{CourseEnd, Usage, OfScript, OfModel, end_answer, answer_for}
 use Rattle.lue_run.specs.Lines.{line_of, status_of}
 use Rattle.lue_run.specs.Words.{Command}
 use Rattle.lue_run.specs.Course.{course}
@@ -72,16 +72,14 @@ module _ (call : Call) (answer : Ended) (a : AnswersSo call.command call.before 
     where
       by : Tells a.end call.sink_before call.sink_after answer → IsVerdictKind answer → IsVerdict call answer
       by (inl t) kind = subst (IsVerdict call) (sym (said t.0)) (verdict_of call a.comes.outcome a.comes.came (subst IsVerdictKind (said t.0) kind))
-      by (inr (inl t)) kind = absurd (subst IsVerdictKind t.0 kind)
-      by (inr (inr t)) kind = absurd (subst IsVerdictKind t.1 kind)
+      by (inr t) kind = absurd (subst IsVerdictKind t.1 kind)
 
   pub shown_told : IsShown call answer
   shown_told = by a.tells
     where
       by : Tells a.end call.sink_before call.sink_after answer → IsShown call answer
       by (inl t) = subst (IsShown call) (sym (said t.0)) (shown_of call a.comes.outcome (λ is. a.comes.usage (a.comes.is ∙ is)) a.comes.came)
-      by (inr (inl t)) = subst (IsShown call) (sym t.0) (meets_forgotten why_of (course call.command) call.before call.after a.comes.outcome a.comes.came)
-      by (inr (inr t)) = subst (IsShown call) (sym t.1) (record {
+      by (inr t) = subst (IsShown call) (sym t.1) (record {
         outcome = a.comes.outcome;
         came = a.comes.came;
         has_line = subst HasLine a.comes.is t.2.has_line;
@@ -96,8 +94,7 @@ module _ (call : Call) (answer : Ended) (a : AnswersSo call.command call.before 
     where
       by : Tells a.end call.sink_before call.sink_after answer → LineIsWritten call answer
       by (inl t) = subst (LineIsWritten call) (sym t.0) (written_of call a.end t.1)
-      by (inr (inl t)) = subst (LineIsWritten call) (sym t.0) t.1
-      by (inr (inr t)) = subst (LineIsWritten call) (sym t.1) tt
+      by (inr t) = subst (LineIsWritten call) (sym t.1) tt
 
   pub complete_told : NoFault call → IsComplete call answer
   complete_told none = by a.tells
@@ -105,8 +102,7 @@ module _ (call : Call) (answer : Ended) (a : AnswersSo call.command call.before 
       by : Tells a.end call.sink_before call.sink_after answer → IsComplete call answer
       by (inl t) = subst (IsComplete call) (sym (said t.0))
           (complete_of call none a.comes.outcome a.comes.came (subst (λ end. WroteWhole call.sink_before call.sink_after (line_of end)) a.comes.is t.1))
-      by (inr (inl t)) = inl t.0
-      by (inr (inr t)) = absurd (none.writes (rose_by call.sink_before.faults call.sink_after.faults t.2.failed))
+      by (inr t) = absurd (none.writes (rose_by call.sink_before.faults call.sink_after.faults t.2.failed))
 
   pub refused_told : call.command ≡ None → IsUsage call answer
   refused_told none = record { untouched = a.comes.untouched none; said = by a.tells }
@@ -114,10 +110,9 @@ module _ (call : Call) (answer : Ended) (a : AnswersSo call.command call.before 
       usage : a.end ≡ top.Usage
       usage = a.comes.refused none
 
-      by : Tells a.end call.sink_before call.sink_after answer → (answer ≡ top.Usage) ⊎ (answer ≡ top.OutFault (status_of top.Usage)) ⊎ (answer ≡ top.Memory)
+      by : Tells a.end call.sink_before call.sink_after answer → (answer ≡ top.Usage) ⊎ (answer ≡ top.OutFault (status_of top.Usage))
       by (inl t) = inl (t.0 ∙ usage)
-      by (inr (inl t)) = inr (inr t.0)
-      by (inr (inr t)) = inr (inl (t.1 ∙ ap top.OutFault (subst (λ end. t.0 ≡ status_of end) usage t.2.status)))
+      by (inr t) = inr (t.1 ∙ ap top.OutFault (subst (λ end. t.0 ≡ status_of end) usage t.2.status))
 
   pub counts_told : KeepsCounts call
   counts_told = record { folder = a.comes.came.later; sink = a.later }

@@ -92,7 +92,7 @@ IsShown call other = HasCounted call.after call.before.absents call.before.overl
 -- words that are no command touch nothing, and that is said
 pub record IsUsage (call : Call) (answer : Ended) : Type 0 where
   pub untouched : call.after ≡ call.before
-  pub said : (answer ≡ Usage) ⊎ (answer ≡ OutFault (status_of Usage)) ⊎ (answer ≡ Memory)
+  pub said : (answer ≡ Usage) ⊎ (answer ≡ OutFault (status_of Usage))
 
 -- ---- the line
 

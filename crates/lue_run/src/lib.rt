@@ -11,7 +11,7 @@ mod exit_status;
 mod kinds;
 mod line;
 mod make;
-mod number;
+mod pieces;
 mod plain;
 mod script_line;
 mod top;

@@ -1,121 +1,157 @@
-ghost use Rattle.std.specs.Prelude.{◌≡◌, ◌++◌, IfOk, codes, decimal};
+ghost use Rattle.std.specs.Prelude.{◌++◌, codes, decimal};
 ghost use Rattle.lue_run.specs.Lines.{input_line, line_of, named_line, over_line};
+ghost use Rattle.lue_run.specs.inside.Pieces.{PutsLine};
 
 use crate::ended::Ended;
 use crate::kinds::{grid_word, series_word, table_word};
-use crate::number::put_number;
-use crate::script_line::script_line;
+use crate::pieces::Piece::{Number, Text};
+use crate::pieces::put_pieces;
+use crate::script_line::put_script;
 use cell_values::Word;
 use map_meaning::OverAt;
+use outside_io::{Sink, SinkFailed};
 use run_session::InputKind;
-use std::alloc::{AllocError, Global};
 
-// A text and a name as a line.
-fn with_name(alloc: Global, text: &[u8], name: &Word) -> Result<Vec<u8>, AllocError>
-    ensures { IfOk result (λ line. line.items ≡ named_line text.now name.now) }
+// Writes a text and a name as a line.
+fn put_name<'a, S: Sink>(text: &'a [u8], name: &'a Word, out: &mut S) -> Result<(), SinkFailed>
+    ensures { PutsLine (named_line text.now name.now) (S.state out.old) (S.state out.new) result }
 {
-    let mut line = Vec::from_slice(alloc, text)?;
-    line.extend_from_slice(name.bytes())?;
-    line.push(b'\n')?;
-    Ok(line)
+    put_pieces(&[Text(text), Text(name.bytes()), Text(b"\n")], out)
 }
 
-// The line of a run that came to its end.
-fn done_line(alloc: Global, files: u64, steps: u32) -> Result<Vec<u8>, AllocError>
-    ensures { IfOk result (λ line. line.items ≡ line_of (Ended.Done files steps)) }
+// Writes the line of a run that came to its end.
+fn put_done<S: Sink>(files: u64, steps: u32, out: &mut S) -> Result<(), SinkFailed>
+    ensures { PutsLine (line_of (Ended.Done files steps)) (S.state out.old) (S.state out.new) result }
 {
-    let mut line = Vec::new(alloc);
-    put_number(&mut line, b"done files=", files)?;
-    put_number(&mut line, b" steps=", steps as u64)?;
-    line.push(b'\n')?;
-    Ok(line)
+    put_pieces(
+        &[
+            Text(b"done files="),
+            Number(files),
+            Text(b" steps="),
+            Number(steps as u64),
+            Text(b"\n"),
+        ],
+        out,
+    )
 }
 
-// The line of a model that was made.
-fn made_line(alloc: Global, files: u64) -> Result<Vec<u8>, AllocError>
-    ensures { IfOk result (λ line. line.items ≡ line_of (Ended.Made files)) }
+// Writes a text and a number as a line.
+fn put_count<S: Sink>(text: &[u8], count: u64, out: &mut S) -> Result<(), SinkFailed>
+    ensures { PutsLine (text.now ++ decimal count ++ codes "\n") (S.state out.old) (S.state out.new) result }
 {
-    let mut line = Vec::new(alloc);
-    put_number(&mut line, b"made files=", files)?;
-    line.push(b'\n')?;
-    Ok(line)
+    put_pieces(&[Text(text), Number(count), Text(b"\n")], out)
 }
 
-// The line of a script that has too many tasks.
-fn tasks_line(alloc: Global, count: u64) -> Result<Vec<u8>, AllocError>
-    ensures { IfOk result (λ line. line.items ≡ line_of (Ended.TooManyTasks count)) }
+// Writes the line of an input that has a fault: which, of what it is to be, where.
+fn put_fault<'a, S: Sink>(
+    name: &'a Word,
+    form: &'a [u8],
+    word: &'a [u8],
+    place: &'a [u8],
+    at: u64,
+    out: &mut S,
+) -> Result<(), SinkFailed>
+    ensures { PutsLine (codes "input " ++ name.now ++ form.now ++ word.now ++ place.now ++ decimal at ++ codes "\n")
+        (S.state out.old) (S.state out.new) result }
 {
-    let mut line = Vec::new(alloc);
-    put_number(&mut line, b"tasks ", count)?;
-    line.push(b'\n')?;
-    Ok(line)
+    put_pieces(
+        &[
+            Text(b"input "),
+            Text(name.bytes()),
+            Text(form),
+            Text(word),
+            Text(place),
+            Number(at),
+            Text(b"\n"),
+        ],
+        out,
+    )
 }
 
-// The line of an input that is not as it is to be.
-fn input_line(alloc: Global, name: &Word, kind: InputKind) -> Result<Vec<u8>, AllocError>
-    ensures { IfOk result (λ line. line.items ≡ input_line name.now kind) }
+// Writes the line of an input with two numbers.
+fn put_numbers<'a, S: Sink>(
+    name: &'a Word,
+    text: &'a [u8],
+    first: u32,
+    second: u32,
+    out: &mut S,
+) -> Result<(), SinkFailed>
+    ensures { PutsLine (codes "input " ++ name.now ++ text.now ++ decimal first ++ codes " " ++ decimal second ++ codes "\n")
+        (S.state out.old) (S.state out.new) result }
 {
-    let mut line = Vec::from_slice(alloc, b"input ")?;
-    line.extend_from_slice(name.bytes())?;
+    put_pieces(
+        &[
+            Text(b"input "),
+            Text(name.bytes()),
+            Text(text),
+            Number(first as u64),
+            Text(b" "),
+            Number(second as u64),
+            Text(b"\n"),
+        ],
+        out,
+    )
+}
+
+// Writes the line of an input that is not as it is to be.
+fn put_input<S: Sink>(name: &Word, kind: InputKind, out: &mut S) -> Result<(), SinkFailed>
+    ensures { PutsLine (input_line name.now kind) (S.state out.old) (S.state out.new) result }
+{
     match kind {
         InputKind::Grid(fault) => {
-            line.extend_from_slice(b" grid ")?;
-            line.extend_from_slice(grid_word(fault.kind))?;
-            put_number(&mut line, b" ", fault.at)?;
+            put_fault(name, b" grid ", grid_word(fault.kind), b" ", fault.at, out)
         }
         InputKind::Table(fault) => {
-            line.extend_from_slice(b" table ")?;
-            line.extend_from_slice(table_word(fault.kind))?;
-            put_number(&mut line, b" line ", fault.line as u64)?;
+            let (word, line) = (table_word(fault.kind), fault.line as u64);
+            put_fault(name, b" table ", word, b" line ", line, out)
         }
         InputKind::Series(fault) => {
-            line.extend_from_slice(b" series ")?;
-            line.extend_from_slice(series_word(fault.kind))?;
-            put_number(&mut line, b" line ", fault.line as u64)?;
+            let (word, line) = (series_word(fault.kind), fault.line as u64);
+            put_fault(name, b" series ", word, b" line ", line, out)
         }
-        InputKind::Size { rows, cols } => {
-            put_number(&mut line, b" size ", rows as u64)?;
-            put_number(&mut line, b" ", cols as u64)?;
-        }
-        InputKind::Unsound { row, col } => {
-            put_number(&mut line, b" unsound ", row as u64)?;
-            put_number(&mut line, b" ", col as u64)?;
-        }
+        InputKind::Size { rows, cols } => put_numbers(name, b" size ", rows, cols, out),
+        InputKind::Unsound { row, col } => put_numbers(name, b" unsound ", row, col, out),
     }
-    line.push(b'\n')?;
-    Ok(line)
 }
 
-// The line of an overflow.
-fn overflow_line(alloc: Global, at: &OverAt) -> Result<Vec<u8>, AllocError>
-    ensures { IfOk result (λ line. line.items ≡ over_line at.now) }
+// Writes the line of an overflow.
+fn put_overflow<S: Sink>(at: &OverAt, out: &mut S) -> Result<(), SinkFailed>
+    ensures { PutsLine (over_line at.now) (S.state out.old) (S.state out.new) result }
 {
-    let mut line = Vec::new(alloc);
-    put_number(&mut line, b"overflow step ", at.step as u64)?;
-    put_number(&mut line, b" statement ", at.statement as u64)?;
-    put_number(&mut line, b" operation ", at.operation as u64)?;
-    put_number(&mut line, b" row ", at.row as u64)?;
-    put_number(&mut line, b" col ", at.col as u64)?;
-    line.push(b'\n')?;
-    Ok(line)
+    put_pieces(
+        &[
+            Text(b"overflow step "),
+            Number(at.step as u64),
+            Text(b" statement "),
+            Number(at.statement as u64),
+            Text(b" operation "),
+            Number(at.operation as u64),
+            Text(b" row "),
+            Number(at.row as u64),
+            Text(b" col "),
+            Number(at.col as u64),
+            Text(b"\n"),
+        ],
+        out,
+    )
 }
 
-/// The line that is written for an answer, its line feed included; empty where none is written.
-pub fn line(alloc: Global, end: &Ended) -> Result<Vec<u8>, AllocError>
-    ensures { IfOk result (λ line. line.items ≡ line_of end.now) }
+/// Writes the line of an answer, its line feed included; nothing where it has none. It takes no memory.
+pub fn put_line<S: Sink>(end: &Ended, out: &mut S) -> Result<(), SinkFailed>
+    ensures { PutsLine (line_of end.now) (S.state out.old) (S.state out.new) result }
 {
     match end {
-        Ended::Done { files, steps } => done_line(alloc, *files, *steps),
-        Ended::Made { files } => made_line(alloc, *files),
-        Ended::Usage => Vec::from_slice(alloc, b"usage\n"),
-        Ended::Missing(name) => with_name(alloc, b"missing ", name),
-        Ended::TooLong(name) => with_name(alloc, b"too long ", name),
-        Ended::Script(fault) => script_line(alloc, fault),
-        Ended::Input { name, kind } => input_line(alloc, name, *kind),
-        Ended::TooManyTasks(count) => tasks_line(alloc, *count),
-        Ended::Overflow(at) => overflow_line(alloc, at),
-        Ended::FolderReadFault(name) => with_name(alloc, b"read fault ", name),
-        Ended::FolderWriteFault(name) => with_name(alloc, b"write fault ", name),
-        Ended::OutFault { .. } | Ended::Memory => Ok(Vec::new(alloc)),
+        Ended::Done { files, steps } => put_done(*files, *steps, out),
+        Ended::Made { files } => put_count(b"made files=", *files, out),
+        Ended::Usage => put_pieces(&[Text(b"usage\n")], out),
+        Ended::Missing(name) => put_name(b"missing ", name, out),
+        Ended::TooLong(name) => put_name(b"too long ", name, out),
+        Ended::Script(fault) => put_script(fault, out),
+        Ended::Input { name, kind } => put_input(name, *kind, out),
+        Ended::TooManyTasks(count) => put_count(b"tasks ", *count, out),
+        Ended::Overflow(at) => put_overflow(at, out),
+        Ended::FolderReadFault(name) => put_name(b"read fault ", name, out),
+        Ended::FolderWriteFault(name) => put_name(b"write fault ", name, out),
+        Ended::OutFault { .. } | Ended::Memory => put_pieces(&[], out),
     }
 }

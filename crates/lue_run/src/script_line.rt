@@ -1,55 +1,68 @@
-ghost use Rattle.std.specs.Prelude.{◌≡◌, ◌++◌, IfOk, OnOk};
-ghost use Rattle.lue_run.specs.Lines.{meaning_words, place_words, script_line, syntax_words};
+ghost use Rattle.std.specs.Prelude.{◌≡◌, ◌++◌};
+ghost use Rattle.lue_run.specs.Lines.{place_words, script_line};
+ghost use Rattle.lue_run.specs.inside.Pieces.{PutsLine, piece_bytes};
 
 use crate::kinds::{meaning_word, syntax_word};
-use crate::number::put_number;
+use crate::pieces::Piece::{Number, Text};
+use crate::pieces::{Piece, put_pieces};
+use outside_io::{Sink, SinkFailed};
 use run_session::ScriptFault;
 use script_syntax::SyntaxFault;
 use script_types::{MeaningFault, Place};
-use std::alloc::{AllocError, Global};
 
-// Appends where a text has its fault, and what it is.
-fn put_syntax(line: &mut Vec<u8>, fault: &SyntaxFault) -> Result<(), AllocError>
-    ensures { OnOk result (line.new.items ≡ line.old.items ++ syntax_words fault.now) }
+// Writes where a text has its fault, and what it is.
+fn put_syntax<S: Sink>(fault: &SyntaxFault, out: &mut S) -> Result<(), SinkFailed>
+    ensures { PutsLine (script_line (ScriptFault.Syntax fault.now)) (S.state out.old) (S.state out.new) result }
 {
-    put_number(line, b"", fault.line as u64)?;
-    put_number(line, b":", fault.column as u64)?;
-    line.push(b' ')?;
-    line.extend_from_slice(syntax_word(fault.kind))?;
-    Ok(())
+    put_pieces(
+        &[
+            Text(b"script "),
+            Number(fault.line as u64),
+            Text(b":"),
+            Number(fault.column as u64),
+            Text(b" "),
+            Text(syntax_word(fault.kind)),
+            Text(b"\n"),
+        ],
+        out,
+    )
 }
 
-// Appends the place of a fault of meaning.
-fn put_place(line: &mut Vec<u8>, at: Place) -> Result<(), AllocError>
-    ensures { OnOk result (line.new.items ≡ line.old.items ++ place_words at) }
+// The place of a fault of meaning, in two pieces.
+fn place_pieces(at: Place) -> (Piece<'static>, Piece<'static>)
+    ensures { piece_bytes result.0 ++ piece_bytes result.1 ≡ place_words at }
 {
     match at {
-        Place::Binding(number) => put_number(line, b"binding ", number as u64)?,
-        Place::Area => line.extend_from_slice(b"areamap")?,
-        Place::Statement(number) => put_number(line, b"statement ", number as u64)?,
+        Place::Binding(number) => (Text(b"binding "), Number(number as u64)),
+        Place::Area => (Text(b"areamap"), Text(b"")),
+        Place::Statement(number) => (Text(b"statement "), Number(number as u64)),
     }
-    Ok(())
 }
 
-// Appends where a script has its fault of meaning, and what it is.
-fn put_meaning(line: &mut Vec<u8>, fault: &MeaningFault) -> Result<(), AllocError>
-    ensures { OnOk result (line.new.items ≡ line.old.items ++ meaning_words fault.now) }
+// Writes where a script has its fault of meaning, and what it is.
+fn put_meaning<S: Sink>(fault: &MeaningFault, out: &mut S) -> Result<(), SinkFailed>
+    ensures { PutsLine (script_line (ScriptFault.Meaning fault.now)) (S.state out.old) (S.state out.new) result }
 {
-    put_place(line, fault.at)?;
-    line.push(b' ')?;
-    line.extend_from_slice(meaning_word(fault.kind))?;
-    Ok(())
+    let (section, number) = place_pieces(fault.at);
+    put_pieces(
+        &[
+            Text(b"script "),
+            section,
+            number,
+            Text(b" "),
+            Text(meaning_word(fault.kind)),
+            Text(b"\n"),
+        ],
+        out,
+    )
 }
 
-/// The line of a script that has a fault.
-pub fn script_line(alloc: Global, fault: &ScriptFault) -> Result<Vec<u8>, AllocError>
-    ensures { IfOk result (λ line. line.items ≡ script_line fault.now) }
+/// Writes the line of a script that has a fault.
+pub fn put_script<S: Sink>(fault: &ScriptFault, out: &mut S) -> Result<(), SinkFailed>
+    ensures { PutsLine (script_line fault.now) (S.state out.old) (S.state out.new) result }
 {
-    let mut line = Vec::from_slice(alloc, b"script ")?;
     match fault {
-        ScriptFault::Syntax(fault) => put_syntax(&mut line, fault)?,
-        ScriptFault::Meaning(fault) => put_meaning(&mut line, fault)?,
+        ScriptFault::Syntax(fault) => put_syntax(fault, out),
+        ScriptFault::Meaning(fault) => put_meaning(fault, out),
     }
-    line.push(b'\n')?;
-    Ok(line)
 }

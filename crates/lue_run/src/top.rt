@@ -11,7 +11,7 @@ ghost use Rattle.lue_run.specs.inside.Top.{AnswersSo, ComesTo, Tells};
 use crate::command::{Asked, plain_asked};
 use crate::ended::Ended;
 use crate::exit_status::status;
-use crate::line::line;
+use crate::line::put_line;
 use crate::make::run_make;
 use crate::plain::run_plain;
 use cell_values::Word;
@@ -59,15 +59,12 @@ fn come_to<F: Folder>(alloc: Global, asked: Option<Asked<'_>>, folder: &mut F) -
 }
 
 // Writes the line of an end.
-fn tell<S: Sink>(alloc: Global, end: Ended, out: &mut S) -> Ended
+fn tell<S: Sink>(end: Ended, out: &mut S) -> Ended
     requires { HasLine end }
     ensures tells { Tells end (S.state out.old) (S.state out.new) result }
     ensures later { (S.state out.old).faults ≤ (S.state out.new).faults }
 {
-    let Ok(text) = line(alloc, &end) else {
-        return Ended::Memory;
-    };
-    match out.write_all(&text) {
+    match put_line(&end, out) {
         Ok(()) => end,
         Err(_) => {
             let instead = status(&end);
@@ -87,7 +84,7 @@ fn answer<F: Folder, S: Sink>(
 {
     match come_to(alloc, asked, folder) {
         Ended::Memory => Ended::Memory,
-        end => tell(alloc, end, out),
+        end => tell(end, out),
     }
 }
 

@@ -15,7 +15,7 @@ use Rattle.outside_io.specs.declared.folder.PutEnd.{PutEnd}
 use Rattle.outside_io.specs.declared.folder.PutEnd.TheVariants.{Memory}
 
 -- the order of names tells apart what differs
-other_name : (name other : List ℕ) → other ≢ name → is_eq (slice_cmp nat_cmp other name) ≡ false
+pub other_name : (name other : List ℕ) → other ≢ name → is_eq (slice_cmp nat_cmp other name) ≡ false
 other_name name other ne = is_eq-slice_cmp other name ∙ false_from_ne_true _ (λ e. ne ((bytes_eq-Decides other name).0 e))
 
 same_others-insert : (files : Files) (name bytes : List ℕ) → SameOthers name (Some files) (Some (insert files name bytes))

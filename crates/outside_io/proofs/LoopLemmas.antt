@@ -17,7 +17,7 @@ leads_start why run s = record { on = λ new outcome m. m }
 
 -- there was no memory before anything of the rest was done
 pub leads_no_memory : {X : Type 0} (why : X → Why) (whole rest : Run X) (old mid : FolderState) → Leads why whole old rest mid → Meets why whole old mid (CutOff NoMemory)
-leads_no_memory why whole rest old mid l = l.on mid (CutOff NoMemory) (meets_no_memory why rest mid mid (read_keeps_all mid))
+leads_no_memory why whole rest old mid l = l.on mid (CutOff NoMemory) (meets_no_memory why rest mid mid (read_keeps_all mid) refl)
 
 module _ {Y E : Type 0} (why : E → Why) (whole : Run (Result Y E)) (old : FolderState) where
   -- nothing is left

@@ -6,13 +6,13 @@ use Rattle.std.specs.Prelude.{None, Some, Ok, Err, Result, IfSome, IsSomeAnd}
 use Rattle.std.specs.Option.{option_map}
 use Rattle.std.specs.declared.option.Option.{Option}
 use Rattle.std.specs.FinMap.{get, insert}
-use Rattle.outside_io.specs.State.{Files, PutPair, FolderState, NoCountFell, SameOthers, IsFound, ReadKeeps, IsPut, PutKeeps}
+use Rattle.outside_io.specs.State.{Files, FolderState, NoCountFell, SameOthers, IsFound, ReadKeeps, IsPut, PutKeeps}
 use Rattle.outside_io.specs.Refusals.{ReadRefused, PutRefused}
 use Rattle.outside_io.specs.Events.{Event, Read, Put, Course, Run, puts_of, files_after}
 use Rattle.outside_io.specs.Runs.{settled, within_limit, reading, putting, continued, ◌>>=◌, finished, afterwards, end_as}
 use Rattle.outside_io.specs.Causes.{Fault, ReadFault, WriteFault, NoMemory, RunOutcome, CameTo, CutOff, outcome_as, stopped_by, Why, ByContents, ByAbsence, ByLength, why_by, HasCounted, CountsRefused, RoseFor, HasCause}
 use Rattle.outside_io.specs.Counts.{Counts, after_put, after_read, counts_of, raised}
-use Rattle.outside_io.specs.Met.{PutsGrew, DidAll, HoldsBut, DidUpTo, IsCutAt, Follows, HasFaults, OneFault, CountsFaults, Meets}
+use Rattle.outside_io.specs.Met.{DidAll, HoldsBut, DidUpTo, IsCutAt, Follows, HasFaults, OneFault, CountsFaults, Meets}
 use Rattle.outside_io.specs.inside.Parts.{Settles}
 use Rattle.outside_io.specs.declared.folder.ReadEnd.TheVariants.{Absent, TooLong, Failed}
 use Rattle.outside_io.specs.declared.folder.PutEnd.TheVariants as puts
@@ -76,7 +76,7 @@ no_fault s = record { reads = refl; puts = refl }
 one_fault_later : (old mid new : FolderState) (fault : Fault) → NoFaultMet old mid → OneFault mid new fault → OneFault old new fault
 one_fault_later old mid new (ReadFault name) a b = record { reads = b.reads ∙ ap raised a.reads; puts = b.puts ∙ a.puts }
 one_fault_later old mid new (WriteFault name) a b = record { reads = b.reads ∙ a.reads; puts = b.puts ∙ ap raised a.puts }
-one_fault_later old mid new NoMemory a b = tt
+one_fault_later old mid new NoMemory a b = record { reads = b.reads ∙ a.reads; puts = b.puts ∙ a.puts }
 
 -- what was met at last was met over all, where no fault was met at first
 faults_later : {X : Type 0} (old mid new : FolderState) (outcome : RunOutcome X) → NoFaultMet old mid → CountsFaults mid new outcome → CountsFaults old new outcome
@@ -230,35 +230,19 @@ module _ {X : Type 0} (why : X → Why) where
       gave_up s = record {
         later = none_fell s;
         cause = tt;
-        faults = tt;
+        faults = no_fault s;
         follows = where_told s s.holds (λ files. IsCutAt [] files s s NoMemory) refl
             (λ files h. ([], [], record { events = refl; puts = grew_by_none s.puts s.puts refl; holds = h }));
       }
 
-  -- no memory, with nothing put in this part
-  pub meets_no_memory : (run : Run X) (old new : FolderState) → ReadKeeps old new → Meets why run old new (CutOff NoMemory)
-  meets_no_memory run old new k = record {
+  -- no memory, with nothing put in this part, and no fault met
+  pub meets_no_memory : (run : Run X) (old new : FolderState) → ReadKeeps old new → new.read_faults ≡ old.read_faults → Meets why run old new (CutOff NoMemory)
+  meets_no_memory run old new k none = record {
     later = k.later;
     cause = tt;
-    faults = tt;
+    faults = record { reads = none; puts = k.put_faults };
     follows = where_told old old.holds (λ files. Follows (run files) files old new (CutOff NoMemory)) refl
         (λ files h. ([], (run files).events, record { events = refl; puts = grew_by_none old.puts new.puts k.puts; holds = all_held (run files).events files new (k.holds ∙ h) }));
-  }
-
-  forgotten : (course : Course X) (files : Files) (old new : FolderState) (outcome : RunOutcome X) → Follows course files old new outcome → Follows course files old new (CutOff NoMemory)
-  forgotten course files old new (CameTo end) f = (course.events, [], record { events = sym (append-nil course.events); puts = f.1.puts; holds = f.1.holds })
-  forgotten course files old new (CutOff (ReadFault name)) f = (f.0, Read name f.2 ∷ f.1, f.3)
-  forgotten course files old new (CutOff (WriteFault name)) f = (f.0, Put name f.2 ∷ f.1, f.3)
-  forgotten course files old new (CutOff NoMemory) f = f
-
-  -- whatever a call did, it may answer want of memory
-  pub meets_forgotten : (run : Run X) (old new : FolderState) (outcome : RunOutcome X) → Meets why run old new outcome → Meets why run old new (CutOff NoMemory)
-  meets_forgotten run old new outcome m = record {
-    later = m.later;
-    cause = tt;
-    faults = tt;
-    follows = if_told old.holds (λ files. Follows (run files) files old new outcome) (λ files. Follows (run files) files old new (CutOff NoMemory))
-        (λ files f. forgotten (run files) files old new outcome f) m.follows;
   }
 
 module _ {E : Type 0} (why : E → Why) (missing too_long : List ℕ → E) (name : List ℕ) (limit : ℕ) (old new : FolderState) (k : ReadKeeps old new) where
@@ -330,11 +314,11 @@ module _ {E : Type 0} (why : E → Why) (name bytes : List ℕ) (old new : Folde
   }
 
   -- there was no memory for the put
-  pub meets_put_no_memory : PutRefused old new name puts.Memory → Meets (why_by why) (putting name bytes) old new (CutOff NoMemory)
-  meets_put_no_memory r = record {
+  pub meets_put_no_memory : counts_of new ≡ counts_of old → PutRefused old new name puts.Memory → Meets (why_by why) (putting name bytes) old new (CutOff NoMemory)
+  meets_put_no_memory counts r = record {
     later = k.later;
     cause = tt;
-    faults = tt;
+    faults = record { reads = k.read_faults; puts = ap (λ (c : Counts). c.put_faults) counts };
     follows = if_told old.holds (λ files. DidUpTo files old new (Put name bytes ∷ []) [] (Put name bytes ∷ [])) (λ files. IsCutAt (Put name bytes ∷ []) files old new NoMemory)
         (λ files d. ([], Put name bytes ∷ [], d)) (not_put old.holds r.others r.puts);
   }

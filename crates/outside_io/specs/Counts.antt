@@ -18,6 +18,10 @@ pub record Counts : Type 0 where
   pub absents : ℕ
   pub overlongs : ℕ
 
+-- nothing was counted
+abbrev pub no_counts : Counts
+no_counts = record { read_faults = 0; put_faults = 0; absents = 0; overlongs = 0 }
+
 -- the counts of a folder at one moment
 abbrev pub counts_of : FolderState → Counts
 counts_of s = record {

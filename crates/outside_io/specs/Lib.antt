@@ -11,6 +11,9 @@ pub mod CalmFolder
 pub mod MemFolder
 pub mod CalmSink
 pub mod MemSink
+pub mod Disk
 pub mod FileFolder
+pub mod SystemDisk
+pub mod MemDisk
 pub mod StdSink
 pub mod inside

@@ -1,5 +1,5 @@
 -- What a call did that makes a run.
-use Rattle.std.specs.Prelude.{◌≡◌, ℕ, List, [], ◌∷◌, ◌++◌, Some, IfSome, ⊤}
+use Rattle.std.specs.Prelude.{◌≡◌, ℕ, List, [], ◌∷◌, ◌++◌, Some, IfSome}
 use Rattle.std.specs.Option.{option_map}
 use Rattle.outside_io.specs.State.{Files, PutPair, FolderState, NoCountFell, SameOthers}
 use Rattle.outside_io.specs.Events.{Event, Read, Put, Course, Run, puts_of, files_after}
@@ -46,11 +46,11 @@ pub record HasFaults (s : FolderState) (of_reads of_puts : ℕ) : Type 0 where
   pub reads : s.read_faults ≡ of_reads
   pub puts : s.put_faults ≡ of_puts
 
--- one fault is counted, of the sort of the one that cut the call off; for want of memory nothing is said
+-- one fault is counted, of the sort of the one that cut the call off; none for want of memory
 abbrev pub OneFault : FolderState → FolderState → Fault → Type 0
 OneFault old new (ReadFault name) = HasFaults new (raised old.read_faults) old.put_faults
 OneFault old new (WriteFault name) = HasFaults new old.read_faults (raised old.put_faults)
-OneFault old new NoMemory = ⊤
+OneFault old new NoMemory = HasFaults new old.read_faults old.put_faults
 
 -- A call that came to its end met no fault, not even one that a second try made good; one that was cut off by a fault met one.
 abbrev pub CountsFaults : {X : Type 0} → FolderState → FolderState → RunOutcome X → Type 0

@@ -88,6 +88,13 @@ impl CalmFolder {
         Ok(())
     }
 
+    // The bytes of a file.
+    pub(crate) fn held(&self, name: &[u8]) -> Option<&[u8]>
+        ensures { option_map (λ bytes. bytes.now) result ≡ get (held_files self.now.files.items) name.now }
+    {
+        find_bytes(&self.files, name)
+    }
+
     // The puts that succeeded, in order.
     pub(crate) fn puts(&self) -> &[Held]
         ensures { result.now ≡ self.now.puts.items }

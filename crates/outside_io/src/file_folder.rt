@@ -1,42 +1,51 @@
-ghost use Rattle.std.specs.Prelude.{◌≡◌, ◌⊎◌, ◌↔◌, ◌+◌, ◌<◌, ◌≤◌, length, take, Err, IfErr, IfOk, IfSome, Ok, IsErrOf, MatchOption, MatchResult, OnOk};
-ghost use Rattle.std.specs.Fs.{IsFile, file_type, metadata_len};
-ghost use Rattle.std.specs.IoError.{error_kind};
-ghost use Rattle.std.specs.Io.KnownBytes.{Appends, Consumes, IsAtEnd, Keeps};
+ghost use Rattle.std.specs.Prelude.{◌≡◌, ◌⊎◌, ◌↔◌, ◌+◌, ◌<◌, ◌≤◌, length, take, Err, IfErr, IfOk, IfSome, Ok, IsErrOf, MatchOption, MatchResult};
+ghost use Rattle.std.specs.Io.KnownBytes.{Consumes, IsAtEnd, Keeps};
 ghost use Rattle.outside_io.specs.State.{IsFound, ReadKeeps, IsPut, PutKeeps};
 ghost use Rattle.outside_io.specs.Refusals.{ReadRefused, PutRefused};
-ghost use Rattle.outside_io.specs.Counts.{counts_of, after_read, after_put};
-ghost use Rattle.outside_io.specs.FileFolder.{NamesNoFile, file_folder_state, nothing_happened};
+ghost use Rattle.outside_io.specs.Counts.{counts_of, after_read, after_put, no_counts};
+ghost use Rattle.outside_io.specs.Disk.{HoldsNoOther, SameBut};
+ghost use Rattle.outside_io.specs.FileFolder.{FailedFor, NamesNoFile, disk_under, file_folder_state, nothing_happened};
+ghost use Rattle.outside_io.specs.SystemDisk.{system_disk_state};
+ghost use Rattle.outside_io.specs.inside.Calls.{HasPut, HasRead, IsLongerThan, NotRead, WhyNotPut, WhyNotWritten, after_reads};
 ghost use Rattle.outside_io.specs.inside.Reading.{TakesAtMost};
 
-use crate::{Folder, PutEnd, ReadEnd};
+use crate::{Disk, DiskEnd, Folder, Look, PutEnd, ReadEnd, SystemDisk};
 use std::alloc::{AllocError, Global};
-use std::io::{ErrorKind, Read, Write};
 use std::rt::Files;
-use std::{fs, io};
 
 /// How many bytes of a file are read at a time.
 const CHUNK: usize = 65_536;
 
-/// The current folder of the system. It tells its counts and no contents.
+/// The files of a disk. It tells its counts, and the files that the disk holds where this tells them.
 ///
 /// A name that is no text, or has a slash in it, names no file here: it counts as a fault. So does a folder, a pipe
 /// or a device under the name: it is neither read nor written.
 #[derive(Drop)]
-pub struct FileFolder<R: Drop> {
-    rt: R,
+pub struct FileFolder<D: Drop> {
+    disk: D,
     read_faults: u64,
     put_faults: u64,
     absents: u64,
     overlongs: u64,
 }
 
-impl<R: Files + Drop> FileFolder<R> {
-    /// The current folder.
-    pub fn here(rt: R) -> FileFolder<R>
-        ensures { file_folder_state result ≡ nothing_happened }
+impl<R: Files + Drop> FileFolder<SystemDisk<R>> {
+    /// The current folder of the system.
+    pub fn here(rt: R) -> FileFolder<SystemDisk<R>>
+        ensures { file_folder_state system_disk_state result ≡ nothing_happened }
+    {
+        FileFolder::new(SystemDisk::here(rt))
+    }
+}
+
+impl<D: Disk + Drop> FileFolder<D> {
+    /// The files of this disk.
+    pub fn new(disk: D) -> FileFolder<D>
+        ensures disk { disk_under D.state result ≡ D.state disk }
+        ensures counts { counts_of (file_folder_state D.state result) ≡ no_counts }
     {
         FileFolder {
-            rt,
+            disk,
             read_faults: 0,
             put_faults: 0,
             absents: 0,
@@ -45,18 +54,20 @@ impl<R: Files + Drop> FileFolder<R> {
     }
 }
 
-impl<R: Files + Drop> Folder for FileFolder<R> {
-    ghost state = { file_folder_state };
+impl<D: Disk + Drop> Folder for FileFolder<D> {
+    ghost state = { file_folder_state D.state };
 
     fn read(&mut self, alloc: Global, name: &[u8], limit: u64) -> Result<Vec<u8>, ReadEnd>
         ensures answer { MatchResult result
-            (λ bytes. IsFound (file_folder_state self.old) name.now limit bytes.items)
-            (ReadRefused (file_folder_state self.old) (file_folder_state self.new) name.now limit) }
-        ensures keeps { ReadKeeps (file_folder_state self.old) (file_folder_state self.new) }
-        ensures counts { counts_of (file_folder_state self.new) ≡ after_read (counts_of (file_folder_state self.old)) result }
+            (λ bytes. IsFound (file_folder_state D.state self.old) name.now limit bytes.items)
+            (ReadRefused (file_folder_state D.state self.old) (file_folder_state D.state self.new) name.now limit) }
+        ensures keeps { ReadKeeps (file_folder_state D.state self.old) (file_folder_state D.state self.new) }
+        ensures counts { counts_of (file_folder_state D.state self.new) ≡ after_read (counts_of (file_folder_state D.state self.old)) result }
         ensures nameless { NamesNoFile name.now → IsErrOf result ReadEnd.Failed }
+        ensures failed { IsErrOf result ReadEnd.Failed → FailedFor (disk_under D.state self.old) (disk_under D.state self.new) name.now }
+        ensures told { (IsErrOf result ReadEnd.Failed → ⊥) → (disk_under D.state self.new).faults ≡ (disk_under D.state self.old).faults }
     {
-        match read_file(&self.rt, alloc, name, limit) {
+        match read_file(&mut self.disk, alloc, name, limit) {
             Ok(bytes) => Ok(bytes),
             Err(ReadEnd::Absent) => {
                 self.absents = self.absents.saturating_add(1);
@@ -76,13 +87,15 @@ impl<R: Files + Drop> Folder for FileFolder<R> {
 
     fn put(&mut self, _alloc: Global, name: &[u8], bytes: &[u8]) -> Result<(), PutEnd>
         ensures answer { MatchResult result
-            (λ _. IsPut (file_folder_state self.old) (file_folder_state self.new) name.now bytes.now)
-            (PutRefused (file_folder_state self.old) (file_folder_state self.new) name.now) }
-        ensures keeps { PutKeeps (file_folder_state self.old) (file_folder_state self.new) }
-        ensures counts { counts_of (file_folder_state self.new) ≡ after_put (counts_of (file_folder_state self.old)) result }
+            (λ _. IsPut (file_folder_state D.state self.old) (file_folder_state D.state self.new) name.now bytes.now)
+            (PutRefused (file_folder_state D.state self.old) (file_folder_state D.state self.new) name.now) }
+        ensures keeps { PutKeeps (file_folder_state D.state self.old) (file_folder_state D.state self.new) }
+        ensures counts { counts_of (file_folder_state D.state self.new) ≡ after_put (counts_of (file_folder_state D.state self.old)) result }
         ensures nameless { NamesNoFile name.now → IsErrOf result PutEnd.Failed }
+        ensures failed { IsErrOf result PutEnd.Failed → FailedFor (disk_under D.state self.old) (disk_under D.state self.new) name.now }
+        ensures told { (IsErrOf result PutEnd.Failed → ⊥) → (disk_under D.state self.new).faults ≡ (disk_under D.state self.old).faults }
     {
-        match put_file(&self.rt, name, bytes) {
+        match put_file(&mut self.disk, name, bytes) {
             Ok(()) => Ok(()),
             Err(PutEnd::Failed) => {
                 self.put_faults = self.put_faults.saturating_add(1);
@@ -90,39 +103,6 @@ impl<R: Files + Drop> Folder for FileFolder<R> {
             }
             Err(PutEnd::Memory) => Err(PutEnd::Memory),
         }
-    }
-}
-
-// What an error of the system means for a look at a file.
-fn look_end(error: &io::Error) -> ReadEnd
-    ensures absent { (result ≡ ReadEnd.Absent) ↔ (error_kind error.now ≡ ErrorKind.NotFound) }
-    ensures memory { (result ≡ ReadEnd.Memory) ↔ (error_kind error.now ≡ ErrorKind.OutOfMemory) }
-    ensures short { result ≡ ReadEnd.TooLong → ⊥ }
-{
-    match error.kind() {
-        ErrorKind::NotFound => ReadEnd::Absent,
-        _ => read_end(error),
-    }
-}
-
-// What an error of the system means for a read of a file that is open.
-fn read_end(error: &io::Error) -> ReadEnd
-    ensures memory { (result ≡ ReadEnd.Memory) ↔ (error_kind error.now ≡ ErrorKind.OutOfMemory) }
-    ensures other { (result ≡ ReadEnd.Memory) ⊎ (result ≡ ReadEnd.Failed) }
-{
-    match error.kind() {
-        ErrorKind::OutOfMemory => ReadEnd::Memory,
-        _ => ReadEnd::Failed,
-    }
-}
-
-// What an error of the system means for a put.
-fn put_end(error: &io::Error) -> PutEnd
-    ensures { (result ≡ PutEnd.Memory) ↔ (error_kind error.now ≡ ErrorKind.OutOfMemory) }
-{
-    match error.kind() {
-        ErrorKind::OutOfMemory => PutEnd::Memory,
-        _ => PutEnd::Failed,
     }
 }
 
@@ -139,36 +119,43 @@ fn path_of(name: &[u8]) -> Option<&str>
     }
 }
 
-// How long a file is that is to be read, at most `limit`. What is no ordinary file is a fault.
-fn size_within(found: &fs::Metadata, limit: u64) -> Result<u64, ReadEnd>
-    ensures file { IfOk result (λ size. IsFile (file_type found.now) × (size ≡ metadata_len found.now) × (size ≤ limit)) }
-    ensures long { (result ≡ Err ReadEnd.TooLong) ↔ (IsFile (file_type found.now) × (limit < metadata_len found.now)) }
-    ensures err { IfErr result (λ end. (end ≡ ReadEnd.TooLong) ⊎ ((end ≡ ReadEnd.Failed) × (IsFile (file_type found.now) → ⊥))) }
+// How long a file is that is to be read, at most `limit`.
+fn size_within(found: Look, limit: u64) -> Result<u64, ReadEnd>
+    ensures file { IfOk result (λ size. (found ≡ Look.File size) × (size ≤ limit)) }
+    ensures long { IsErrOf result ReadEnd.TooLong → IsLongerThan limit found }
+    ensures none { IsErrOf result ReadEnd.Absent → found ≡ Look.Nothing }
+    ensures other { IsErrOf result ReadEnd.Failed → found ≡ Look.Other }
+    ensures memory { IsErrOf result ReadEnd.Memory → ⊥ }
 {
-    if !found.is_file() {
-        return Err(ReadEnd::Failed);
+    match found {
+        Look::Nothing => Err(ReadEnd::Absent),
+        Look::Other => Err(ReadEnd::Failed),
+        Look::File(size) if size > limit => Err(ReadEnd::TooLong),
+        Look::File(size) => Ok(size),
     }
-    if found.len() > limit {
-        return Err(ReadEnd::TooLong);
-    }
-    Ok(found.len())
 }
 
-// All bytes of a file, at most `limit` of them. Opening a pipe could wait forever, so its kind is asked for first.
-fn read_file<R: Files>(rt: &R, alloc: Global, name: &[u8], limit: u64) -> Result<Vec<u8>, ReadEnd>
-    ensures short { IfOk result (λ bytes. length bytes.items ≤ limit) }
+// All bytes of a file, at most `limit` of them. Opening a pipe could wait forever, so what stands there is asked for first.
+fn read_file<D: Disk>(
+    disk: &mut D,
+    alloc: Global,
+    name: &[u8],
+    limit: u64,
+) -> Result<Vec<u8>, ReadEnd>
+    ensures answer { MatchResult result
+        (λ bytes. HasRead (D.state disk.old) (D.state disk.new) name.now limit bytes.items)
+        (NotRead (D.state disk.old) (D.state disk.new) name.now limit) }
+    ensures keeps { (D.state disk.new).holds ≡ (D.state disk.old).holds }
     ensures nameless { NamesNoFile name.now → result ≡ Err ReadEnd.Failed }
 {
     let Some(path) = path_of(name) else {
         return Err(ReadEnd::Failed);
     };
-    let size = match fs::metadata(rt, path) {
-        Ok(found) => size_within(&found, limit)?,
-        Err(error) => return Err(look_end(&error)),
-    };
-    match fs::open(rt, path) {
-        Ok(mut file) => read_all(alloc, &mut file, size, limit),
-        Err(error) => Err(look_end(&error)),
+    let found = disk.look(path)?;
+    let size = size_within(found, limit)?;
+    match disk.open(path)? {
+        Some(mut file) => read_all(disk, alloc, &mut file, size, limit),
+        None => Err(ReadEnd::Absent),
     }
 }
 
@@ -181,40 +168,52 @@ fn room_for(alloc: Global, count: usize) -> Result<Vec<u8>, AllocError>
 
 // Reads what comes next into the front of the room, at most so many bytes, and tells how many came. None come only at
 // the end.
-fn read_front<F: Read>(file: &mut F, room: &mut [u8], most: u64) -> Result<usize, ReadEnd>
+fn read_front<D: Disk>(
+    disk: &mut D,
+    file: &mut D::Reader,
+    room: &mut [u8],
+    most: u64,
+) -> Result<usize, ReadEnd>
     requires most { 0 < most }
     requires room { 0 < length room.old }
     ensures count { IfOk result (λ count. (count ≤ length room.new) × (count ≤ most)) }
     ensures bytes { MatchResult result
-        (λ count. Consumes (F.remaining file.old) (F.remaining file.new) (take count room.new))
-        (λ _. Keeps (F.remaining file.old) (F.remaining file.new)) }
-    ensures end { result ≡ Ok 0 → IsAtEnd (F.remaining file.new) }
+        (λ count. Consumes (D.left file.old) (D.left file.new) (take count room.new))
+        (λ _. Keeps (D.left file.old) (D.left file.new)) }
+    ensures end { result ≡ Ok 0 → IsAtEnd (D.left file.new) }
     ensures err { IfErr result (λ end. (end ≡ ReadEnd.Memory) ⊎ (end ≡ ReadEnd.Failed)) }
+    ensures keeps { (D.state disk.new).holds ≡ (D.state disk.old).holds }
+    ensures counts { (D.state disk.new).faults ≡ after_reads (D.state disk.old).faults result }
 {
     let want = most.min(room.len() as u64) as usize;
-    match file.read(&mut room[..want]) {
-        Ok(count) => Ok(count),
-        Err(error) => Err(read_end(&error)),
-    }
+    Ok(disk.read(file, &mut room[..want])?)
 }
 
 // All bytes that a file has left, at most `limit` of them. There is room for `size` of them from the start, and a read
-// that fails is not tried again. Whatever comes, at most one byte beyond the limit is taken from the reader, and none
+// that fails is not tried again. Whatever comes, at most one byte beyond the limit is taken from the file, and none
 // where a fault is told. One that tells its bytes shows that none is lost.
-fn read_all<F: Read>(alloc: Global, file: &mut F, size: u64, limit: u64) -> Result<Vec<u8>, ReadEnd>
+fn read_all<D: Disk>(
+    disk: &mut D,
+    alloc: Global,
+    file: &mut D::Reader,
+    size: u64,
+    limit: u64,
+) -> Result<Vec<u8>, ReadEnd>
     ensures short { IfOk result (λ bytes. length bytes.items ≤ limit) }
-    ensures whole { IfSome (F.remaining file.old) (λ rest. IfOk result (λ bytes. bytes.items ≡ rest)) }
-    ensures long { IfSome (F.remaining file.old) (λ rest. IsErrOf result ReadEnd.TooLong → limit < length rest) }
+    ensures whole { IfSome (D.left file.old) (λ rest. IfOk result (λ bytes. bytes.items ≡ rest)) }
+    ensures long { IfSome (D.left file.old) (λ rest. IsErrOf result ReadEnd.TooLong → limit < length rest) }
     ensures there { IsErrOf result ReadEnd.Absent → ⊥ }
-    ensures taken { TakesAtMost (F.remaining file.old) (F.remaining file.new) (limit + 1) }
-    ensures fault { IsErrOf result ReadEnd.Failed → TakesAtMost (F.remaining file.old) (F.remaining file.new) limit }
+    ensures taken { TakesAtMost (D.left file.old) (D.left file.new) (limit + 1) }
+    ensures fault { IsErrOf result ReadEnd.Failed → TakesAtMost (D.left file.old) (D.left file.new) limit }
+    ensures keeps { (D.state disk.new).holds ≡ (D.state disk.old).holds }
+    ensures counts { (D.state disk.new).faults ≡ after_reads (D.state disk.old).faults result }
 {
     let most = limit.saturating_add(1);
     let mut room = room_for(alloc, CHUNK)?;
     let mut bytes = Vec::with_capacity(alloc, size.min(most) as usize)?;
     while (bytes.len() as u64) < most {
         let left = most - bytes.len() as u64;
-        let count = read_front(file, &mut room, left)?;
+        let count = read_front(disk, file, &mut room, left)?;
         if count == 0 {
             return Ok(bytes);
         }
@@ -224,30 +223,32 @@ fn read_all<F: Read>(alloc: Global, file: &mut F, size: u64, limit: u64) -> Resu
 }
 
 // Sets the bytes of a file. What is no ordinary file is left alone.
-fn put_file<R: Files>(rt: &R, name: &[u8], bytes: &[u8]) -> Result<(), PutEnd>
-    ensures { NamesNoFile name.now → result ≡ Err PutEnd.Failed }
+fn put_file<D: Disk>(disk: &mut D, name: &[u8], bytes: &[u8]) -> Result<(), PutEnd>
+    ensures answer { MatchResult result
+        (λ _. HasPut (D.state disk.old) (D.state disk.new) name.now bytes.now)
+        (WhyNotPut (D.state disk.old) (D.state disk.new) name.now) }
+    ensures keeps { SameBut name.now (D.state disk.old).holds (D.state disk.new).holds }
+    ensures nameless { NamesNoFile name.now → result ≡ Err PutEnd.Failed }
 {
     let Some(path) = path_of(name) else {
         return Err(PutEnd::Failed);
     };
-    match fs::metadata(rt, path) {
-        Ok(found) if found.is_file() => {}
-        Ok(_) => return Err(PutEnd::Failed),
-        Err(error) if error.kind() == ErrorKind::NotFound => {}
-        Err(error) => return Err(put_end(&error)),
-    }
-    match fs::create(rt, path) {
-        Ok(mut file) => write_whole(&mut file, bytes),
-        Err(error) => Err(put_end(&error)),
+    match disk.look(path)? {
+        Look::Other => Err(PutEnd::Failed),
+        Look::Nothing | Look::File(_) => write_file(disk, path, bytes),
     }
 }
 
-// Writes all bytes of a file. A writer that tells its bytes shows that they grew by all of these.
-fn write_whole<W: Write>(file: &mut W, bytes: &[u8]) -> Result<(), PutEnd>
-    ensures { OnOk result (Appends (W.contents file.old) (W.contents file.new) bytes.now) }
+// Writes a file from its beginning, and closes it.
+fn write_file<D: Disk>(disk: &mut D, path: &str, bytes: &[u8]) -> Result<(), PutEnd>
+    requires { HoldsNoOther (D.state disk.old).holds path.now }
+    ensures answer { MatchResult result
+        (λ _. HasPut (D.state disk.old) (D.state disk.new) path.now bytes.now)
+        (WhyNotWritten (D.state disk.old) (D.state disk.new)) }
+    ensures keeps { SameBut path.now (D.state disk.old).holds (D.state disk.new).holds }
 {
-    match file.write_all(bytes) {
-        Ok(()) => Ok(()),
-        Err(error) => Err(put_end(&error)),
-    }
+    let mut file = disk.create(path)?;
+    disk.write(&mut file, bytes)?;
+    disk.close(file)?;
+    Ok(())
 }

@@ -4,6 +4,7 @@ pub mod ColumnLaws
 pub mod Columns
 pub mod DrainInputs
 pub mod DrainLists
+pub mod Halts
 pub mod HeldDrains
 pub mod InputPlaces
 pub mod InputsMore

@@ -9,7 +9,7 @@ use Rattle.outside_io.specs.Met.{Meets}
 use Rattle.outside_io.proofs.Callers.{meets_afterwards, meets_cut_off, meets_end_as, meets_last_stop, meets_settled}
 use Rattle.run_session.specs.declared.ends.Stop.{Stop}
 use Rattle.run_session.specs.declared.ends.Stop.TheVariants as stop
-use Rattle.run_session.specs.Ends.{ScriptEnd, Missing, TooLong, Script, Input, TooManyTasks, Overflow, why}
+use Rattle.run_session.specs.Ends.{ScriptEnd, Missing, TooLong, Script, Input, Overflow, why}
 use Rattle.run_session.specs.Samples.{Sampled}
 use Rattle.run_session.specs.Steps.{Plan, Standing, StepsEnd, or_end, or_steps_end, samples_by, series_run, steps_and_series, steps_run}
 use Rattle.run_session.specs.inside.Parts.{CutsOff, MakesFor, stop_outcome}
@@ -27,7 +27,6 @@ fault_cuts (stop.Missing name) is = absurd is
 fault_cuts (stop.TooLong name) is = absurd is
 fault_cuts (stop.Script fault) is = absurd is
 fault_cuts (stop.Input name kind) is = absurd is
-fault_cuts (stop.TooManyTasks count) is = absurd is
 fault_cuts (stop.Overflow at) is = absurd is
 fault_cuts (stop.FolderReadFault name) is = (ReadFault name, refl)
 fault_cuts (stop.FolderWriteFault name) is = (WriteFault name, refl)
@@ -39,7 +38,6 @@ files_come (stop.Missing name) other = (Missing name, refl)
 files_come (stop.TooLong name) other = (TooLong name, refl)
 files_come (stop.Script fault) other = (Script fault, refl)
 files_come (stop.Input name kind) other = (Input name kind, refl)
-files_come (stop.TooManyTasks count) other = (TooManyTasks count, refl)
 files_come (stop.Overflow at) other = (Overflow at, refl)
 files_come (stop.FolderReadFault name) other = absurd (other tt)
 files_come (stop.FolderWriteFault name) other = absurd (other tt)

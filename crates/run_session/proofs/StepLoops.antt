@@ -55,7 +55,6 @@ fault_same (stop.Missing name) x y is = absurd is
 fault_same (stop.TooLong name) x y is = absurd is
 fault_same (stop.Script fault) x y is = absurd is
 fault_same (stop.Input name kind) x y is = absurd is
-fault_same (stop.TooManyTasks count) x y is = absurd is
 fault_same (stop.Overflow at) x y is = absurd is
 fault_same (stop.FolderReadFault name) x y is = refl
 fault_same (stop.FolderWriteFault name) x y is = refl

@@ -73,7 +73,7 @@ module _ (plan : Plan) (s : Standing) (step : ℕ) (old mid : FolderState) where
   module _ (g : List StepMap) (read : Meets (why_by why) reading_grids old mid (CameTo (Ok g))) where
     -- there is no memory for what is known
     pub no_known : Meets (why_by why) (step_run plan s step) old mid (CutOff NoMemory)
-    no_known = meets_on why reading_grids (after_grids plan s step) old mid mid g (CutOff NoMemory) read (meets_no_memory (why_by why) (after_grids plan s step g) mid mid (read_keeps_all mid))
+    no_known = meets_on why reading_grids (after_grids plan s step) old mid mid g (CutOff NoMemory) read (meets_no_memory (why_by why) (after_grids plan s step g) mid mid (read_keeps_all mid) refl)
 
     -- the evaluation of the step stops
     pub step_stops : (new : FolderState) (o : RunOutcome ScriptEnd) → Meets (why_by why) (evaluated_run plan (s.grids ++ g ∷ []) step) mid new (stopped_by o) → Meets (why_by why) (step_run plan s step) old new (stopped_by o)

@@ -1,5 +1,5 @@
 -- What a session asks of its runner.
-use Rattle.std.specs.Prelude.{◌≡◌, ◌<◌, ◌-◌, ℕ, nat_le, List, [], ◌∷◌, ◌++◌, filter, length, map, take, Ok, IfSome, Result, ⊤}
+use Rattle.std.specs.Prelude.{◌≡◌, ◌<◌, ◌-◌, ℕ, nat_le, List, [], ◌∷◌, ◌++◌, filter, length, map, take, Ok, Some, IfSome, Result, ⊤}
 use Rattle.std.specs.declared.option.Option.{Option}
 use Rattle.std.specs.List.{range_with_len}
 use Rattle.outside_io.specs.Events.{Run}
@@ -16,7 +16,7 @@ use Rattle.map_meaning.specs.Spans.{Knows, RunOf, initial_stages, kept_maps, kno
 use Rattle.script_types.specs.Answers.{IsLowered}
 use Rattle.script_types.specs.Values.{done_steps}
 use Rattle.run_session.specs.declared.ends.SessionEnd.{SessionEnd}
-use Rattle.run_session.specs.declared.ends.SessionEnd.TheVariants.{Done as IsDone}
+use Rattle.run_session.specs.declared.ends.SessionEnd.TheVariants.{Done as IsDone, TooManyTasks}
 use Rattle.run_session.specs.declared.inputs.Inputs.{Inputs}
 use Rattle.run_session.specs.Course.{Loaded, Many, load_run, plan_of}
 use Rattle.run_session.specs.Ends.{ScriptEnd}
@@ -27,6 +27,15 @@ use Rattle.run_session.specs.Steps.{Standing, plan_run}
 abbrev pub CountsTasks : (Program → ℕ → ℕ → Option ℕ) → (Script → Many) → Type 0
 CountsTasks admits many = (script : Script) (program : Program) → IsLowered script program →
     (rows cols : ℕ) → many script rows cols ≡ admits program rows cols
+
+-- the number is that of some script, over maps of some size
+abbrev pub IsCountOf : (Script → Many) → ℕ → Type 0
+IsCountOf many count = (script : Script) × (rows : ℕ) × (cols : ℕ) × (many script rows cols ≡ Some count)
+
+-- it is so of the number, where the answer is too many tasks
+abbrev pub IfTooMany : SessionEnd → (ℕ → Type 0) → Type 0
+IfTooMany (TooManyTasks count) P = P count
+IfTooMany other P = ⊤
 
 -- the spans of a program: each stage of `initial`, and then each step
 abbrev pub all_spans : Program → List Span

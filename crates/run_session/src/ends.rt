@@ -1,4 +1,5 @@
 ghost use Rattle.std.specs.Prelude.{◌≡◌};
+ghost use Rattle.run_session.specs.declared.ends.Halt.TheVariants as halt;
 ghost use Rattle.run_session.specs.declared.ends.Stop.TheVariants as stop;
 
 use cell_values::Word;
@@ -70,8 +71,6 @@ pub enum Stop {
     Script(ScriptFault),
     /// The file of this name is no input as it is to be.
     Input { name: Word, kind: InputKind },
-    /// The program is too large for the runner: the number that shows it.
-    TooManyTasks(u64),
     /// A cell's result is out of range.
     Overflow(OverAt),
     /// The file could not be read.
@@ -95,6 +94,31 @@ impl<T: Drop> From<AllocFailed<T>> for Stop {
 
     fn from(_: AllocFailed<T>) -> Stop {
         Stop::Memory
+    }
+}
+
+/// Why a script was not run to its end.
+#[derive(Drop)]
+pub enum Halt {
+    /// The program is too large for the runner: the number that shows it.
+    TooManyTasks(u64),
+    /// A part of the run stopped.
+    Stopped(Stop),
+}
+
+impl From<Stop> for Halt {
+    ghost from_gives = { λ at e. e ≡ halt.Stopped at };
+
+    fn from(at: Stop) -> Halt {
+        Halt::Stopped(at)
+    }
+}
+
+impl From<AllocError> for Halt {
+    ghost from_gives = { λ _ e. e ≡ halt.Stopped stop.Memory };
+
+    fn from(_: AllocError) -> Halt {
+        Halt::Stopped(Stop::Memory)
     }
 }
 

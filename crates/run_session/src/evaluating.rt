@@ -1,15 +1,18 @@
 //! What the runner is asked for.
 
-ghost use Rattle.std.specs.Prelude.{◌≡◌, ◌++◌, ◌∷◌, [], ℕ, List, None, IfOk, OnOk};
+ghost use Rattle.std.specs.Prelude.{◌≡◌, ◌++◌, ◌∷◌, [], ℕ, List, None, Some, IfOk, IfErr, OnOk};
+ghost use Rattle.outside_io.specs.Causes.{outcome_by, why_by};
+ghost use Rattle.outside_io.specs.inside.Parts.{Settles};
 ghost use Rattle.grid_text.specs.Form.{IsSize};
 ghost use Rattle.map_meaning.specs.declared.program.Program.{Program as TheProgram};
 ghost use Rattle.map_meaning.specs.Programs.{IsWellFormed};
 ghost use Rattle.map_meaning.specs.Spans.{IsSpan, Knows, RunOf, stage_of};
 ghost use Rattle.run_session.specs.Course.{or_too_many};
-ghost use Rattle.run_session.specs.inside.Parts.{GivesEnd};
+ghost use Rattle.run_session.specs.Ends.{why};
+ghost use Rattle.run_session.specs.inside.Parts.{GivesEnd, IfHasMany, halt_outcome};
 ghost use Rattle.run_session.specs.inside.Standings.{stage_result};
 
-use crate::ends::Stop;
+use crate::ends::{Halt, Stop};
 use map_meaning::{BlockRunner, Known, Program, Span, StageEnd, StepMap};
 use sqlite_items::Items;
 use std::alloc::Global;
@@ -21,15 +24,16 @@ pub fn admitted<R: BlockRunner>(
     program: &Program,
     rows: u32,
     cols: u32,
-) -> Result<(), Stop>
+) -> Result<(), Halt>
     requires program { IsWellFormed program.now }
     requires size { IsSize rows cols }
-    ensures settles { GivesEnd (or_too_many (R.admits runner.now program.now rows cols)) result }
+    ensures settles { Settles (why_by why) (or_too_many (R.admits runner.now program.now rows cols)) (outcome_by halt_outcome result) }
     ensures none { IfOk result (λ _. R.admits runner.now program.now rows cols ≡ None) }
+    ensures many { IfErr result (λ halt. IfHasMany halt (λ count. R.admits runner.now program.now rows cols ≡ Some count)) }
 {
     match runner.admit(program, rows, cols) {
         None => Ok(()),
-        Some(count) => Err(Stop::TooManyTasks(count)),
+        Some(count) => Err(Halt::TooManyTasks(count)),
     }
 }
 

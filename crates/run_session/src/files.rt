@@ -20,12 +20,12 @@ pub fn fetch<F: Folder>(
         (F.state folder.old) (F.state folder.new) (seen_by (λ bytes. bytes.items) result) }
     ensures short { IfOk result (λ bytes. length bytes.items ≤ limit) }
 {
+    let Ok(word) = Word::new(alloc, name) else {
+        return Err(Stop::Memory);
+    };
     match folder.read(alloc, name, limit) {
         Ok(bytes) => Ok(bytes),
         Err(end) => {
-            let Ok(word) = Word::new(alloc, name) else {
-                return Err(Stop::Memory);
-            };
             match end {
                 ReadEnd::Absent => return Err(Stop::Missing(word)),
                 ReadEnd::TooLong => return Err(Stop::TooLong(word)),

@@ -1,15 +1,16 @@
-ghost use Rattle.std.specs.Prelude.{◌≡◌, [], IfOk, OnOk};
+ghost use Rattle.std.specs.Prelude.{◌≡◌, [], IfOk, IfErr, OnOk, Some};
 ghost use Rattle.script_syntax.specs.declared.tree.Script.{Script as TheScript};
 ghost use Rattle.outside_io.specs.Met.{Meets};
-ghost use Rattle.run_session.specs.Asked.{CountsTasks, IfDone, WasAsked};
+ghost use Rattle.run_session.specs.declared.ends.Halt.TheVariants as halt;
+ghost use Rattle.run_session.specs.Asked.{CountsTasks, IfDone, IfTooMany, IsCountOf, WasAsked};
 ghost use Rattle.run_session.specs.Course.{Many, script_run, start_run, whole_run};
 ghost use Rattle.run_session.specs.Ends.{session_outcome, why};
-ghost use Rattle.run_session.specs.inside.Parts.{Makes, stop_outcome};
+ghost use Rattle.run_session.specs.inside.Parts.{IfHasMany, MakesWhole, halt_outcome, stop_outcome};
 ghost use Rattle.run_session.specs.inside.Running.{IsPrepared};
 ghost use Rattle.run_session.specs.inside.Standings.{program_plan};
 ghost use Rattle.run_session.specs.inside.Tallies.{HasRun, files_put, tally_of};
 
-use crate::ends::{SessionEnd, Stop, Tally};
+use crate::ends::{Halt, SessionEnd, Stop, Tally};
 use crate::evaluating::admitted;
 use crate::loading::load;
 use crate::start::{prepared, run_plan};
@@ -40,13 +41,15 @@ fn run_start<F: Folder, R: BlockRunner>(
     folder: &mut F,
     runner: &mut R,
     work: &mut Work,
-) -> Result<Tally, Stop>
+) -> Result<Tally, Halt>
     requires ready { R.ready runner.old }
     requires work { IsPrepared work.old }
-    ensures meets { Makes (start_run (R.admits runner.old work.old.program.value work.old.inputs.frame.rows work.old.inputs.frame.cols)
+    ensures meets { MakesWhole (start_run (R.admits runner.old work.old.program.value work.old.inputs.frame.rows work.old.inputs.frame.cols)
         (program_plan work.old.program.value work.old.inputs)) (F.state folder.old) (F.state folder.new) result }
     ensures run { IfOk result (λ tally. HasRun (R.asked runner.old) (R.asked runner.new) work.old.program.value work.old.inputs
         (F.state folder.old) (F.state folder.new)) }
+    ensures many { IfErr result (λ halt. IfHasMany halt (λ count.
+        R.admits runner.old work.old.program.value work.old.inputs.frame.rows work.old.inputs.frame.cols ≡ Some count)) }
     ensures ready { R.ready runner.new }
 {
     admitted(
@@ -68,10 +71,12 @@ fn run_named<F: Folder, R: BlockRunner>(
     folder: &mut F,
     runner: &mut R,
     name: &[u8],
-) -> Result<Tally, Stop>
+) -> Result<Tally, Halt>
     requires ready { R.ready runner.old }
     ensures meets { (many : TheScript → Many) → CountsTasks (R.admits runner.old) many
-        → Makes (whole_run many name.now) (F.state folder.old) (F.state folder.new) result }
+        → MakesWhole (whole_run many name.now) (F.state folder.old) (F.state folder.new) result }
+    ensures many { (many : TheScript → Many) → CountsTasks (R.admits runner.old) many
+        → IfErr result (λ halt. IfHasMany halt (IsCountOf many)) }
     ensures ready { R.ready runner.new }
     ensures asked { let holds = (F.state folder.old).holds in
         R.asked runner.old [] → OnOk result (WasAsked (R.asked runner.new) name.now holds) }
@@ -82,20 +87,32 @@ fn run_named<F: Folder, R: BlockRunner>(
 }
 
 // The answer for a stop.
-fn session_end(stop: Stop) -> SessionEnd
+fn stop_end(stop: Stop) -> SessionEnd
     ensures outcome { session_outcome result ≡ stop_outcome stop }
     ensures stopped { IfDone result ⊥ }
+    ensures few { IfTooMany result (λ _. ⊥) }
 {
     match stop {
         Stop::Missing(name) => SessionEnd::Missing(name),
         Stop::TooLong(name) => SessionEnd::TooLong(name),
         Stop::Script(fault) => SessionEnd::Script(fault),
         Stop::Input { name, kind } => SessionEnd::Input { name, kind },
-        Stop::TooManyTasks(count) => SessionEnd::TooManyTasks(count),
         Stop::Overflow(at) => SessionEnd::Overflow(at),
         Stop::FolderReadFault(name) => SessionEnd::FolderReadFault(name),
         Stop::FolderWriteFault(name) => SessionEnd::FolderWriteFault(name),
         Stop::Memory => SessionEnd::Memory,
+    }
+}
+
+// The answer for a run that did not come to its end.
+fn session_end(at: Halt) -> SessionEnd
+    ensures outcome { session_outcome result ≡ halt_outcome at }
+    ensures stopped { IfDone result ⊥ }
+    ensures many { IfTooMany result (λ count. at ≡ halt.TooManyTasks count) }
+{
+    match at {
+        Halt::TooManyTasks(count) => SessionEnd::TooManyTasks(count),
+        Halt::Stopped(stop) => stop_end(stop),
     }
 }
 
@@ -117,6 +134,8 @@ pub fn run_script<F: Folder, R: BlockRunner>(
     // Which files are read and put, in which order, with which end, and why each answer comes.
     ensures meets { (many : TheScript → Many) → CountsTasks (R.admits runner.old) many
         → Meets why (script_run many name.now) (F.state folder.old) (F.state folder.new) (session_outcome result) }
+    // Too many tasks are told only by a number that a script has for this runner, also where the folder tells no files.
+    ensures many { (many : TheScript → Many) → CountsTasks (R.admits runner.old) many → IfTooMany result (IsCountOf many) }
     ensures ready { R.ready runner.new }
     // A runner of block 1 that keeps a record of its runs has those of the script, where this was run to its end.
     ensures asked { let holds = (F.state folder.old).holds in
@@ -127,6 +146,6 @@ pub fn run_script<F: Folder, R: BlockRunner>(
             files: tally.files,
             steps: tally.steps,
         },
-        Err(stop) => session_end(stop),
+        Err(halt) => session_end(halt),
     }
 }

@@ -1,7 +1,7 @@
 //! Runs along drain directions: transports, neighbours, catchments and masks, and stages of `initial`. The files were worked
 //! out by hand from the rules of the operations.
 
-use crate::files::{File, PUT};
+use crate::files::{File, PUT, RUNOFF, RUNOFF_FILES, RUNOFF_PUTS};
 use crate::runs::{Case, expect_cases};
 use std::test::Fail;
 
@@ -151,33 +151,12 @@ static MASKS: [Case; 5] = [
 
 /// Drain maps over steps.
 static STEPS: [Case; 3] = [
-    // rainfall and runoff
     (
-        "# rainfall and runoff\nbinding\n\
-            RainTSS = rain.tss;  RainZone = zone.asc : nominal;  Soil = soil.asc : nominal;\n\
-            InfilTbl = infil.tbl;  Ldd = ldd.asc : ldd;  Runoff = q;  OutTSS = out.tss;\n\
-            Factor = 0.5;\n\
-            areamap Ldd;\ntimer 1 2 1;\ninitial\n\
-            Infil = lookupscalar(InfilTbl, Soil);\n\
-            Total = 0;\ndynamic\n\
-            Rain = timeinputscalar(RainTSS, RainZone) * Factor;\n\
-            report Runoff = accuthresholdflux(Ldd, Rain, Infil);\n\
-            Total = Total + maptotal(Rain);\n\
-            report OutTSS = timeoutput(RainZone, Total);\n",
-        &[
-            ("rain.tss", "rain\n2\ntimestep\nzone 1\n1 4\n2 2\n"),
-            ("zone.asc", "1 1 1"),
-            ("soil.asc", "1 2 1"),
-            ("infil.tbl", "1 0.5\n2 2\n"),
-            ("ldd.asc", "6 6 5"),
-        ],
+        RUNOFF,
+        RUNOFF_FILES,
         0,
         "done files=3 steps=2\n",
-        &[
-            ("q0000000.001", "1.5 1.5 3"),
-            ("q0000000.002", "0.5 0 0.5"),
-            ("out.tss", "timeseries scalar\n2\ntimestep\n1\n1 6\n2 9\n"),
-        ],
+        RUNOFF_PUTS,
     ),
     // a store along a drain map that `initial` cuts, each step from the one before
     (

@@ -1,8 +1,11 @@
 //! Runs in which the folder, the sink or the memory fails, at each call in turn: over a script with three inputs and three
-//! outputs, over two steps, with a table, a series, a stack and time series, and over stages and a step, with a drain map,
-//! windows and areas.
+//! outputs, over two steps, with a table, a series, a stack and time series, over rainfall and runoff, and over stages and a
+//! step, with a drain map, windows and areas.
 
-use crate::files::{File, INPUTS, PUT, PUT_ELSEWHERE, THREE, THREE_PUTS, folder_with};
+use crate::files::{
+    File, INPUTS, PUT, PUT_ELSEWHERE, RUNOFF, RUNOFF_FILES, RUNOFF_PUTS, THREE, THREE_PUTS,
+    folder_with,
+};
 use crate::runs::{end_of, expect_end, expect_puts};
 use crate::scant::ScantFolder;
 use lue_run::{Ended, status};
@@ -86,10 +89,25 @@ const CALLS: &[Call] = &[
     (14, 7, 0, "done files=7 steps=2\n"),
 ];
 
-static MODELS: [Model; 3] = [
+/// The calls of rainfall and runoff.
+const RUNOFF_CALLS: &[Call] = &[
+    (1, 0, 7, "read fault m.mod\n"),
+    (2, 0, 7, "read fault ldd.asc\n"),
+    (3, 0, 7, "read fault rain.tss\n"),
+    (4, 0, 7, "read fault zone.asc\n"),
+    (5, 0, 7, "read fault soil.asc\n"),
+    (6, 0, 7, "read fault infil.tbl\n"),
+    (7, 0, 8, "write fault q0000000.001\n"),
+    (8, 1, 8, "write fault q0000000.002\n"),
+    (9, 2, 8, "write fault out.tss\n"),
+    (10, 3, 0, "done files=3 steps=2\n"),
+];
+
+static MODELS: [Model; 4] = [
     // three inputs and three outputs of `initial`
     (THREE, INPUTS, PUT_ELSEWHERE, THREE_PUTS, THREE_CALLS),
     (SCRIPT, FILES, PUT, PUTS, CALLS),
+    (RUNOFF, RUNOFF_FILES, PUT, RUNOFF_PUTS, RUNOFF_CALLS),
     // a drain map among the inputs, and one that is computed and put
     (
         "binding A = a.asc; L = l.asc : ldd; B = b.asc; areamap A; timer 1 1 1; initial W = windowtotal(B, 3); \

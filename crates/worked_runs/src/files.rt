@@ -49,6 +49,35 @@ pub const THREE_PUTS: &[File] = &[
     ("Twice", "6 1.5 30"),
 ];
 
+/// Rainfall and runoff: over two steps, with a table, a series, a drain map, samples and a total of the map.
+pub const RUNOFF: &str = "# rainfall and runoff\nbinding\n\
+    RainTSS = rain.tss;  RainZone = zone.asc : nominal;  Soil = soil.asc : nominal;\n\
+    InfilTbl = infil.tbl;  Ldd = ldd.asc : ldd;  Runoff = q;  OutTSS = out.tss;\n\
+    Factor = 0.5;\n\
+    areamap Ldd;\ntimer 1 2 1;\ninitial\n\
+    Infil = lookupscalar(InfilTbl, Soil);\n\
+    Total = 0;\ndynamic\n\
+    Rain = timeinputscalar(RainTSS, RainZone) * Factor;\n\
+    report Runoff = accuthresholdflux(Ldd, Rain, Infil);\n\
+    Total = Total + maptotal(Rain);\n\
+    report OutTSS = timeoutput(RainZone, Total);\n";
+
+/// Its files.
+pub const RUNOFF_FILES: &[File] = &[
+    ("rain.tss", "rain\n2\ntimestep\nzone 1\n1 4\n2 2\n"),
+    ("zone.asc", "1 1 1"),
+    ("soil.asc", "1 2 1"),
+    ("infil.tbl", "1 0.5\n2 2\n"),
+    ("ldd.asc", "6 6 5"),
+];
+
+/// What it puts, in order.
+pub const RUNOFF_PUTS: &[File] = &[
+    ("q0000000.001", "1.5 1.5 3"),
+    ("q0000000.002", "0.5 0 0.5"),
+    ("out.tss", "timeseries scalar\n2\ntimestep\n1\n1 6\n2 9\n"),
+];
+
 /// The text of a file, with these lines in the head of a row.
 pub(crate) fn text_of(alloc: Global, head: &str, text: &str) -> Result<String, Fail> {
     if text.contains("\n") {

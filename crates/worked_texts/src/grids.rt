@@ -12,7 +12,7 @@ use std::process::Abort;
 use std::test::Fail;
 
 /// A kind, a text that is no grid of it, and its first fault with the byte place.
-static FAULTS: [(Kind, &str, GridKind, u64); 22] = [
+static FAULTS: [(Kind, &str, GridKind, u64); 24] = [
     (Scalar, "ncols 2 nrows 1 NCols 2", GridKind::Head, 16),
     (Scalar, "xllcorner 0 xllcenter 0", GridKind::Head, 12),
     (Scalar, "ncols 2 ncols", GridKind::Head, 8),
@@ -24,6 +24,18 @@ static FAULTS: [(Kind, &str, GridKind, u64); 22] = [
     (Scalar, "cellsize -1", GridKind::Head, 9),
     (Scalar, "NODATA_value none", GridKind::Head, 13),
     (Scalar, "ncols 4194305", GridKind::Head, 6),
+    (
+        Scalar,
+        "ncols 4194305\nnrows 1\nxllcorner 0\nyllcorner 0\ncellsize 1\n1\n",
+        GridKind::Head,
+        6,
+    ),
+    (
+        Scalar,
+        "ncols 2\nnrows 1\nnrows 1\nyllcorner 0\ncellsize 1\n1\n",
+        GridKind::Head,
+        16,
+    ),
     (
         Scalar,
         "nrows 2048 cellsize 1 ncols 2049",

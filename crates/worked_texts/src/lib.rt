@@ -7,6 +7,8 @@ mod arithmetic;
 #[cfg(test)]
 mod convert;
 #[cfg(test)]
+mod disks;
+#[cfg(test)]
 mod grids;
 #[cfg(test)]
 mod outside;

@@ -24,7 +24,7 @@ fn outcome(read: &Result<Vec<u8>, ReadEnd>) -> &[u8] {
 }
 
 // Reads each of these names, at most so many bytes of it.
-fn expect_reads<F: Folder>(
+pub(crate) fn expect_reads<F: Folder>(
     rt: &impl Abort,
     alloc: Global,
     folder: &mut F,
@@ -37,7 +37,12 @@ fn expect_reads<F: Folder>(
 }
 
 // Puts a file.
-fn put<F: Folder>(alloc: Global, folder: &mut F, name: &str, bytes: &str) -> Result<(), PutEnd> {
+pub(crate) fn put<F: Folder>(
+    alloc: Global,
+    folder: &mut F,
+    name: &str,
+    bytes: &str,
+) -> Result<(), PutEnd> {
     folder.put(alloc, name.as_bytes(), bytes.as_bytes())
 }
 

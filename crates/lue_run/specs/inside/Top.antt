@@ -1,11 +1,11 @@
 -- What the parts of a top call answer.
-use Rattle.std.specs.Prelude.{◌≡◌, ◌⊎◌, ◌≤◌, ℕ, [], Option, None}
+use Rattle.std.specs.Prelude.{◌≡◌, ◌⊎◌, ◌≤◌, ℕ, Option, None}
 use Rattle.outside_io.specs.State.{FolderState, SinkState, WroteFront}
 use Rattle.outside_io.specs.Counts.{raised}
 use Rattle.outside_io.specs.Causes.{RunOutcome}
 use Rattle.outside_io.specs.Met.{Meets}
 use Rattle.lue_run.specs.declared.ended.Ended.{Ended}
-use Rattle.lue_run.specs.declared.ended.Ended.TheVariants.{Usage, OutFault, Memory}
+use Rattle.lue_run.specs.declared.ended.Ended.TheVariants.{Usage, OutFault}
 use Rattle.lue_run.specs.Ends.{CourseEnd, why_of, answer_for}
 use Rattle.lue_run.specs.Lines.{line_of, status_of}
 use Rattle.lue_run.specs.Course.{course}
@@ -28,11 +28,10 @@ pub record Unwritten (end : Ended) (old new : SinkState) (instead : ℕ) : Type 
   pub failed : new.faults ≡ raised old.faults
   pub front : WroteFront old new (line_of end)
 
--- what is told of an end: its line and nothing else; or, for want of memory, nothing; or a front of its line, and its status
+-- what is told of an end: its line and nothing else; or a front of its line, and its status
 abbrev pub Tells : Ended → SinkState → SinkState → Ended → Type 0
 Tells end old new answer =
     ((answer ≡ end) × WroteWhole old new (line_of end))
-    ⊎ ((answer ≡ Memory) × WroteWhole old new [])
     ⊎ ((instead : ℕ) × (answer ≡ OutFault instead) × Unwritten end old new instead)
 
 -- what is answered: the command came to an end, and that is told

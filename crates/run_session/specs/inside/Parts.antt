@@ -20,6 +20,8 @@ use Rattle.map_meaning.specs.Spans.{AreInputMaps, AreOfInputs, HasSeriesKind, Is
 use Rattle.map_meaning.specs.Table.{is_kind}
 use Rattle.script_types.specs.Answers.{IsLowered}
 use Rattle.run_session.specs.declared.ends.InputKind.{InputKind}
+use Rattle.run_session.specs.declared.ends.Halt.{Halt}
+use Rattle.run_session.specs.declared.ends.Halt.TheVariants as halt
 use Rattle.run_session.specs.declared.ends.Stop.{Stop}
 use Rattle.run_session.specs.declared.ends.Stop.TheVariants as stop
 use Rattle.run_session.specs.declared.frame.Frame.{Frame}
@@ -40,11 +42,24 @@ stop_outcome (stop.Missing name) = CameTo (Missing name)
 stop_outcome (stop.TooLong name) = CameTo (TooLong name)
 stop_outcome (stop.Script fault) = CameTo (Script fault)
 stop_outcome (stop.Input name kind) = CameTo (InputIs name kind)
-stop_outcome (stop.TooManyTasks count) = CameTo (TooManyTasks count)
 stop_outcome (stop.Overflow at) = CameTo (Overflow at)
 stop_outcome (stop.FolderReadFault name) = CutOff (ReadFault name)
 stop_outcome (stop.FolderWriteFault name) = CutOff (WriteFault name)
 stop_outcome stop.Memory = CutOff NoMemory
+
+-- how the run of a script came out that was not run to its end
+abbrev pub halt_outcome : Halt → RunOutcome ScriptEnd
+halt_outcome (halt.TooManyTasks count) = CameTo (TooManyTasks count)
+halt_outcome (halt.Stopped at) = stop_outcome at
+
+-- it is so of the number, where there are too many tasks
+abbrev pub IfHasMany : Halt → (ℕ → Type 0) → Type 0
+IfHasMany (halt.TooManyTasks count) P = P count
+IfHasMany (halt.Stopped at) P = ⊤
+
+-- a call made the run of a script, once its program is known, and answers so
+abbrev pub MakesWhole : {X : Type 0} → Run (Result X ScriptEnd) → FolderState → FolderState → Result X Halt → Type 0
+MakesWhole run old new result = Meets (why_by why) run old new (outcome_by halt_outcome result)
 
 -- a call made this part of a script's run, and answers so
 abbrev pub Makes : {X : Type 0} → Run (Result X ScriptEnd) → FolderState → FolderState → Result X Stop → Type 0

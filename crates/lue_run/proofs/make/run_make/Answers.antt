@@ -20,7 +20,7 @@ use Rattle.lue_run.proofs.make.run_make.Goals as goal
 pub returns-in_default : goal.returns-in_default
 returns-in_default g c =
     let s = g.F.Folder.state c.args.folder.now in
-    record { outcome = CutOff NoMemory; is = refl; came = meets_no_memory why_of (make_run c.args.number) s s (read_keeps_all s); made = λ is. cc is }
+    record { outcome = CutOff NoMemory; is = refl; came = meets_no_memory why_of (make_run c.args.number) s s (read_keeps_all s) refl; made = λ is. cc is }
 
 pub returns-in-Ok-put_all : goal.returns-in-Ok-put_all
 returns-in-Ok-put_all g c =

@@ -15,7 +15,7 @@ consumes_both (Some as') (Some bs) (Some cs) xs ys p q = p ∙ (ap (λ rest. xs 
 
 pub returns-in_err-extend_from_slice-clause-taken : goal.returns-in_err-extend_from_slice-clause-taken
 returns-in_err-extend_from_slice-clause-taken g c =
-    let remaining = g.F.Read.remaining in
+    let remaining = g.D.Disk.left in
     let bytes = c.loop-bytes.bytes in
     let more = take c.in_ok-count.count c.read_front.new.room in
     let few : length (bytes.items ++ more) ≤ c.args.limit + 1 =

@@ -15,7 +15,7 @@ returns-in-Failed-clause-meets g c =
     let state = g.F.Folder.state in
     let old = state c.args.folder.now in
     let new = state c.read.new.self in
-    subst (λ word. Meets (why_by why) (reading Missing TooLong c.args.name.now c.args.limit) old new (CutOff (ReadFault word))) (sym c.in-Ok-new.ensures)
+    subst (λ word. Meets (why_by why) (reading Missing TooLong c.args.name.now c.args.limit) old new (CutOff (ReadFault word))) (sym c.in-Ok.ensures)
     (meets_read_failed why Missing TooLong c.args.name.now c.args.limit old new c.in-Err.ensures.keeps
     (subst (λ (end : ReadEnd). counts_of new ≡ after_read {X = List ℕ} (counts_of old) (Err end)) c.in-Failed.is c.in-Err.ensures.counts)
     (subst (ReadRefused old new c.args.name.now c.args.limit) c.in-Failed.is c.in-Err.ensures.answer))

@@ -1,5 +1,6 @@
 -- The ways out of what was read.
-use Rattle.std.proofs.Common.{sym, subst, Ok}
+use Rattle.std.proofs.Common.{◌≡◌, sym, subst, Ok}
+use Rattle.std.specs.Prelude.{Some}
 use Rattle.outside_io.specs.Runs.{settled}
 use Rattle.outside_io.specs.Causes.{CameTo, why_by}
 use Rattle.outside_io.specs.Met.{Meets}
@@ -9,9 +10,10 @@ use Rattle.run_session.specs.declared.ends.Tally.{Tally}
 use Rattle.run_session.specs.Course.{or_too_many, start_run}
 use Rattle.run_session.specs.Ends.{why}
 use Rattle.run_session.specs.Steps.{plan_run, tallied}
-use Rattle.run_session.specs.inside.Parts.{stop_outcome}
+use Rattle.run_session.specs.inside.Parts.{halt_outcome, stop_outcome}
 use Rattle.run_session.specs.inside.Standings.{program_plan}
 use Rattle.run_session.specs.inside.Tallies.{files_put}
+use Rattle.run_session.proofs.Halts.{many_out}
 use Rattle.run_session.proofs.PlanTally.{plan_puts}
 use Rattle.run_session.proofs.Rest.{after_count}
 use Rattle.run_session.proofs.Tallies.{tallied_ends, tallied_stops}
@@ -25,8 +27,8 @@ returns-in_err-admitted-clause-meets g c =
     let many = g.R.BlockRunner.admits c.args.runner.now program inputs.frame.rows inputs.frame.cols in
     let plan = program_plan program inputs in
     let settles = rw c.deref.ensures at c.in_err-admitted.ensures.settles in
-    meets_out why (start_run many plan) _ stop_outcome _ c.from_residual.result _ c.from_residual.ensures.1
-    (meets_stop why (settled (or_too_many many)) (after_count plan) _ _ (stop_outcome _)
+    meets_out why (start_run many plan) _ halt_outcome _ c.from_residual.result _ c.from_residual.ensures.1
+    (meets_stop why (settled (or_too_many many)) (after_count plan) _ _ (halt_outcome _)
     (meets_settled (why_by why) (or_too_many many) state _ settles))
 
 pub returns-in_err-run_plan-clause-meets : goal.returns-in_err-run_plan-clause-meets
@@ -38,7 +40,7 @@ returns-in_err-run_plan-clause-meets g c =
     let plan = program_plan program inputs in
     let settles = rw c.deref.ensures at c.in_ok-admitted.ensures.settles in
     let o = stop_outcome c.in_err-run_plan.field-0.0 in
-    meets_out why (start_run many plan) _ stop_outcome _ c.from_residual-in_err-run_plan.result _ c.from_residual-in_err-run_plan.ensures.1
+    meets_out why (start_run many plan) _ halt_outcome _ c.from_residual-in_err-run_plan.result _ c.from_residual-in_err-run_plan.ensures.1
     (meets_on why (settled (or_too_many many)) (after_count plan) _ _ _ tt _
     (meets_settled (why_by why) (or_too_many many) state (CameTo (Ok tt)) settles)
     (tallied_stops (plan_run plan) program.steps state (g.F.Folder.state c.run_plan.new.folder) o c.in_err-run_plan.ensures.meets))
@@ -68,3 +70,14 @@ run_plan-requires-clause-admitted g c = rw c.deref.ensures at c.in_ok-admitted.e
 
 pub admitted-requires-clause-program : goal.admitted-requires-clause-program
 admitted-requires-clause-program g c = subst IsWellFormed (sym c.deref.ensures) c.requires.work.formed
+
+pub returns-in_err-admitted-clause-many : goal.returns-in_err-admitted-clause-many
+returns-in_err-admitted-clause-many g c =
+    let inputs = c.args.work.now.inputs in
+    let told = rw c.deref.ensures at c.in_err-admitted.ensures.many in
+    many_out (λ count. g.R.BlockRunner.admits c.args.runner.now c.args.work.now.program.value inputs.frame.rows inputs.frame.cols ≡ Some count) c.from_residual.result _ c.from_residual.ensures.1 told
+
+pub returns-in_err-run_plan-clause-many : goal.returns-in_err-run_plan-clause-many
+returns-in_err-run_plan-clause-many g c =
+    let inputs = c.args.work.now.inputs in
+    many_out (λ count. g.R.BlockRunner.admits c.args.runner.now c.args.work.now.program.value inputs.frame.rows inputs.frame.cols ≡ Some count) c.from_residual-in_err-run_plan.result _ c.from_residual-in_err-run_plan.ensures.1 tt

@@ -1,5 +1,5 @@
 -- The ways out of all steps.
-use Rattle.std.proofs.Common.{◌≡◌, ◌<◌, List, [], map, sym, ap, subst, ◌∙◌, arith}
+use Rattle.std.proofs.Common.{◌≡◌, ◌<◌, List, [], map, sym, ap, subst, ◌∙◌, arith, refl}
 use Rattle.outside_io.specs.Runs.{in_turn}
 use Rattle.outside_io.specs.Causes.{outcome_by, why_by}
 use Rattle.outside_io.specs.Met.{Meets}
@@ -22,7 +22,7 @@ pub returns-in_err-samples-clause-meets : goal.returns-in_err-samples-clause-mee
 returns-in_err-samples-clause-meets g c =
     let plan = program_plan c.args.work.now.program.value c.args.work.now.inputs in
     makes_out _ (plan_run plan) _ _ c.from_residual.result Memory c.from_residual.ensures.1
-    (meets_no_memory (why_by why) (plan_run plan) _ _ (read_keeps_all _))
+    (meets_no_memory (why_by why) (plan_run plan) _ _ (read_keeps_all _) refl)
 
 pub returns-in_err-left-clause-meets : goal.returns-in_err-left-clause-meets
 returns-in_err-left-clause-meets g c =
