@@ -1,3 +1,4 @@
+pub mod Callers
 pub mod CountLemmas
 mod StageLemmas
 mod TaskLemmas

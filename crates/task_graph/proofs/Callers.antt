@@ -2,6 +2,8 @@
 
 -- what holds of each item of a list
 pub use Rattle.task_graph.proofs.Climbs.{Each, climbs_append, climbs_lower, each_all, each_append, each_at, each_map, each_more, each_of}
+-- no span has more tasks than its program
+pub use Rattle.task_graph.proofs.CountLemmas.{fit_the_count}
 -- the operations of a program, part by part
 pub use Rattle.task_graph.proofs.CountLemmas.{drain_there}
 pub use Rattle.task_graph.proofs.HeldLemmas.{some_tiles}

@@ -1,3 +1,4 @@
+pub mod Admitted
 pub mod Classes
 pub mod Counts
 pub mod Ends

@@ -1,6 +1,7 @@
 //! The tasks of a span and what each reads.
 #![tactic(auto)]
 
+mod admitted;
 mod build;
 mod class;
 mod count;
@@ -12,6 +13,7 @@ mod needs;
 mod plan;
 mod task;
 
+pub use admitted::too_many_tasks;
 pub use class::{Class, op_class};
 pub use count::{count_tasks, span_tasks};
 pub use flows::FlowTasks;

@@ -24,8 +24,8 @@ use Rattle.tile_cuts.specs.TileParts.{part_in, tile_places}
 use Rattle.tile_cuts.proofs.PlaceLemmas.{hold_once}
 use Rattle.task_tiles.specs.declared.tile.Tile.{Tile}
 use Rattle.task_tiles.specs.declared.tile.Tile.TheVariants.{Part, Partial}
-use Rattle.tile_tasks.specs.Areas.{ArePartials, HasOp, IsMerging, SomeMaps, many_in}
-use Rattle.tile_tasks.specs.Tiles.{IsPartialFor, tile_handed}
+use Rattle.tile_tasks.specs.inside.Areas.{ArePartials, HasOp, IsMerging, SomeMaps, many_in}
+use Rattle.tile_tasks.specs.inside.Tiles.{IsPartialFor, tile_handed}
 
 -- the places of a tile by the numbers of its cells
 pub zones_tabulated : (cols : ℕ) (r : Rect) (f h a b : CellAt) (n : ℕ) → n ≡ cell_count r → ((i : ℕ) → i < cell_count r → a i ≡ f (place_in cols r i)) → ((i : ℕ) → i < cell_count r → b i ≡ h (place_in cols r i)) →

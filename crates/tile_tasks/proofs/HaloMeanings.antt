@@ -36,7 +36,7 @@ use Rattle.span_operands.proofs.Tables.{tabulate-cell_at, tabulate-scalars}
 use Rattle.task_laws.proofs.HaloLemmas.{grown_in, inside_itself}
 use Rattle.tile_cuts.specs.TileParts.{part_in}
 use Rattle.task_tiles.specs.TaskTiles.{tile_part}
-use Rattle.tile_tasks.specs.Tiles.{cells_in}
+use Rattle.tile_tasks.specs.inside.Tiles.{cells_in}
 use Rattle.tile_tasks.proofs.HaloTiles.{cut_tabulated}
 
 module _ (program : Program) (known : Known) (step : ℕ) (done : Done) (o : Operation) where

@@ -21,7 +21,7 @@ use Rattle.tile_map.specs.declared.arg.Arg.{Arg}
 use Rattle.map_meaning.specs.declared.known.Known.{Known}
 use Rattle.map_meaning.specs.Maps.{CellAt}
 use Rattle.task_tiles.specs.declared.tile.Tile.{Tile}
-use Rattle.tile_tasks.specs.Tiles.{StandFrom, cells_in, part_cells, tile_handed}
+use Rattle.tile_tasks.specs.inside.Tiles.{StandFrom, cells_in, part_cells, tile_handed}
 
 -- ---- tiles that are met
 

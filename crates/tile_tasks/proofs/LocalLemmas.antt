@@ -27,7 +27,7 @@ use Rattle.tile_map.specs.declared.tiling.Tiling.{Tiling}
 use Rattle.tile_map.specs.Tiles.{rect_of}
 use Rattle.tile_tasks.specs.declared.own.Operands.{Operands}
 use Rattle.task_tiles.specs.declared.tile.Tile.{Tile}
-use Rattle.tile_tasks.specs.Tasks.{ReadsEach, many_for}
+use Rattle.tile_tasks.specs.inside.Tasks.{ReadsEach, many_for}
 use Rattle.task_tiles.specs.TaskTiles.{tile_part}
 use Rattle.tile_tasks.specs.inside.Own.{AreOwnOf, cells_a, cells_b, cells_c, cells_d}
 use Rattle.tile_tasks.proofs.OwnLemmas.{own_shows}

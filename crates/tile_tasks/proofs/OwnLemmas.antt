@@ -23,8 +23,8 @@ use Rattle.tile_tasks.specs.declared.own.Operands.{Operands}
 use Rattle.tile_tasks.specs.declared.own.Own.{Own}
 use Rattle.tile_tasks.specs.declared.own.Own.TheVariants.{Cut, Handed}
 use Rattle.task_tiles.specs.declared.tile.Tile.{Tile}
-use Rattle.tile_tasks.specs.Tasks.{AreHandedIn, ReadsEach, many_for}
-use Rattle.tile_tasks.specs.Tiles.{IsCutTile, StandFrom, tile_handed}
+use Rattle.tile_tasks.specs.inside.Tasks.{AreHandedIn, ReadsEach, many_for}
+use Rattle.tile_tasks.specs.inside.Tiles.{IsCutTile, StandFrom, tile_handed}
 use Rattle.tile_tasks.specs.inside.Own.{AreOwnOf, AreShown, IsOwnOf, IsShownFor, OwnSpans, own_cell}
 
 -- a rectangle of a tile has few cells

@@ -1,6 +1,6 @@
 //! Partials of tiles, their merge, and what a tile gets of it.
 
-ghost use Rattle.std.specs.Prelude.{◌≡◌, ◌<◌, ◌≤◌, ◌+◌, ◌++◌, ℕ, List, map, IfOk, OnOk};
+ghost use Rattle.std.specs.Prelude.{◌≡◌, ◌<◌, ◌≤◌, ◌+◌, ◌++◌, ℕ, List, map, IfOk};
 ghost use Rattle.std.specs.Arc.{arc_value};
 ghost use Rattle.text_base.specs.Limits.{most_cells};
 ghost use Rattle.tile_map.specs.Args.{SpansPlaces, arg_cell};
@@ -12,8 +12,8 @@ ghost use Rattle.area_ops.specs.Partials.{StandsFor};
 ghost use Rattle.map_meaning.specs.Maps.{CellAt};
 ghost use Rattle.task_laws.specs.Zones.{tile_zones, zones_in};
 ghost use Rattle.tile_cuts.specs.TileParts.{part_in};
-ghost use Rattle.tile_tasks.specs.Areas.{ArePartials, HasOp, ShowsTile, SomeMaps, many_in};
-ghost use Rattle.tile_tasks.specs.Tiles.{IsPartialFor};
+ghost use Rattle.tile_tasks.specs.inside.Areas.{ArePartials, HasOp, ShowsTile, SomeMaps, many_in};
+ghost use Rattle.tile_tasks.specs.inside.Tiles.{IsPartialFor};
 
 use crate::local::tile_size;
 use area_ops::Partial;
@@ -45,15 +45,15 @@ pub fn tile_partial(
     Ok(partial)
 }
 
-// Takes in the partial of a tile.
-fn take_in(alloc: Global, total: &mut Partial, tile: &Tile) -> Result<(), AllocError>
-    requires op { HasOp total.old.op tile.now }
-    requires few { total.old.cells + many_in tile.now ≤ most_cells }
-    ensures stands { OnOk result ((xs ys : List AreaPlace) → StandsFor total.old xs → IsPartialFor total.old.op ys tile.now → StandsFor total.new (xs ++ ys)) }
-    ensures op { total.new.op ≡ total.old.op }
+// A total with the partial of one more tile.
+fn take_in(total: Partial, tile: &Tile) -> Result<Partial, AllocError>
+    requires op { HasOp total.op tile.now }
+    requires few { total.cells + many_in tile.now ≤ most_cells }
+    ensures stands { IfOk result (λ both. (xs ys : List AreaPlace) → StandsFor total xs → IsPartialFor total.op ys tile.now → StandsFor both (xs ++ ys)) }
+    ensures op { IfOk result (λ both. both.op ≡ total.op) }
 {
     match tile {
-        Tile::Partial(partial) => total.merge(alloc, partial),
+        Tile::Partial(partial) => total.with(partial),
         Tile::Part(_) => unreachable!(),
     }
 }
@@ -72,7 +72,7 @@ pub fn merged(
     let _cols = tiling.cols;
     let mut total = Partial::of(alloc, op, Arg::One(Cell::Val(0)), Arg::One(Cell::Val(1)), 0)?;
     for tile in tiles {
-        take_in(alloc, &mut total, tile)?;
+        total = take_in(total, tile)?;
     }
     Ok(total)
 }

@@ -2,8 +2,6 @@
 
 ghost use Rattle.std.specs.Prelude.{◌≡◌, ◌<◌, ◌≤◌, ◌+◌, ◌-◌, ◌*◌, ◌/◌, ◌%◌, ℕ, true, length, map, IfOk};
 ghost use Rattle.std.specs.Arc.{arc_value};
-ghost use Rattle.cell_values.specs.declared.kind.Kind.TheVariants.{Scalar};
-ghost use Rattle.cell_values.specs.Kinds.{IsCell};
 ghost use Rattle.tile_map.specs.Rects.{HasCells, HoldsPlace, IsInMap, cell_count, grown, number_in};
 ghost use Rattle.tile_map.specs.Tiles.{across, down, rect_of, tile_count};
 ghost use Rattle.tile_map.specs.inside.Met.{tiles_met, tiles_of};
@@ -15,9 +13,9 @@ ghost use Rattle.span_operands.specs.Made.{AgreesWith, IsKnown, span_start};
 ghost use Rattle.span_operands.specs.declared.scope.Scope.TheVariants.{Focal, Near};
 ghost use Rattle.span_operands.specs.inside.Held.{HasDrainMap};
 ghost use Rattle.span_operands.specs.inside.Scopes.{IsScopeOf};
-ghost use Rattle.tile_tasks.specs.Tasks.{AreHandedIn, IsTaskAt, ReadsAround, SomeDone};
+ghost use Rattle.tile_tasks.specs.inside.Tasks.{AreHandedIn, IsTaskAt, ReadsAround, ReadsScalars, SomeDone};
 ghost use Rattle.task_tiles.specs.TaskTiles.{tile_part};
-ghost use Rattle.tile_tasks.specs.Tiles.{SomeMap, StandFrom, cells_in};
+ghost use Rattle.tile_tasks.specs.inside.Tiles.{SomeMap, StandFrom, cells_in};
 ghost use Rattle.map_meaning.specs.Maps.{CellAt};
 ghost use Rattle.tile_map.specs.Args.{SpansPlaces, arg_cell};
 
@@ -175,9 +173,8 @@ pub fn near_tile(
     requires scope { IsScopeOf (Near op) operation.op }
     requires drain { HasDrainMap known.now operation.drain }
     requires task { IsTaskAt program.now span known.now tiling.now step tile operation }
-    requires reads { SomeDone (ReadsAround program.now span known.now tiling.now step (tiles_of tiling.now (grown tiling.now.rows tiling.now.cols 1 (rect_of tiling.now tile))) operation.a (map arc_value tiles.now)) }
-    requires scalars { (done : Done) → ReadsAround program.now span known.now tiling.now step (tiles_of tiling.now (grown tiling.now.rows tiling.now.cols 1 (rect_of tiling.now tile))) operation.a (map arc_value tiles.now) done → (place : ℕ) → place < known.now.rows * known.now.cols → IsCell Scalar (operand_cell (scene_of program.now.inputs known.now step) done operation.a place) }
-    ensures { IfOk result (λ part. (done : Done) → ReadsAround program.now span known.now tiling.now step (tiles_of tiling.now (grown tiling.now.rows tiling.now.cols 1 (rect_of tiling.now tile))) operation.a (map arc_value tiles.now) done → part ≡ tile_part program.now known.now step done operation (rect_of tiling.now tile)) }
+    requires reads { SomeDone (ReadsScalars program.now span known.now tiling.now step (tiles_of tiling.now (grown tiling.now.rows tiling.now.cols 1 (rect_of tiling.now tile))) operation.a (map arc_value tiles.now)) }
+    ensures { IfOk result (λ part. (done : Done) → ReadsScalars program.now span known.now tiling.now step (tiles_of tiling.now (grown tiling.now.rows tiling.now.cols 1 (rect_of tiling.now tile))) operation.a (map arc_value tiles.now) done → part ≡ tile_part program.now known.now step done operation (rect_of tiling.now tile)) }
 {
     let around = tiling.halo(tile, 1);
     let inner = tiling.rect(tile);

@@ -5,7 +5,7 @@ ghost use Rattle.std.specs.Arc.{arc_value};
 ghost use Rattle.tile_map.specs.Rects.{HasCells, HoldsPlace, IsInMap, number_in};
 ghost use Rattle.tile_map.specs.Tiles.{across};
 ghost use Rattle.tile_map.specs.inside.Met.{tiles_met};
-ghost use Rattle.tile_tasks.specs.Tiles.{part_cells, tile_handed};
+ghost use Rattle.tile_tasks.specs.inside.Tiles.{part_cells, tile_handed};
 
 use cell_values::Cell;
 use std::sync::Arc;

@@ -6,9 +6,7 @@ mod halo;
 mod handed;
 mod local;
 mod own;
+mod run;
 mod zones;
 
-pub use areas::merged;
-pub use halo::{near_tile, window_tile};
-pub use local::local_tile;
-pub use zones::{partial_task, spread_task};
+pub use run::run_task;

@@ -11,7 +11,7 @@ ghost use Rattle.span_operands.specs.inside.Scopes.{IsScopeOf};
 ghost use Rattle.cell_ops.specs.Work.{IsWork, work_outcome};
 ghost use Rattle.tile_map.specs.Parts.{part_of};
 ghost use Rattle.tile_tasks.specs.inside.Own.{AreOwnOf, AreShown, cells_a, cells_b, cells_c, cells_d};
-ghost use Rattle.tile_tasks.specs.Tasks.{IsTaskAt, ReadsEach, SomeDone, many_for};
+ghost use Rattle.tile_tasks.specs.inside.Tasks.{IsTaskAt, ReadsEach, SomeDone, many_for};
 ghost use Rattle.task_tiles.specs.TaskTiles.{tile_part};
 
 use crate::own::{Operands, own_cells, shown};

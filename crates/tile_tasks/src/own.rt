@@ -5,7 +5,7 @@ ghost use Rattle.std.specs.Arc.{arc_value};
 ghost use Rattle.tile_map.specs.Args.{SpansPlaces, arg_cell};
 ghost use Rattle.tile_map.specs.Tiles.{tile_count};
 ghost use Rattle.span_operands.specs.Made.{IsKnown, span_start};
-ghost use Rattle.tile_tasks.specs.Tiles.{tile_handed};
+ghost use Rattle.tile_tasks.specs.inside.Tiles.{tile_handed};
 ghost use Rattle.tile_tasks.specs.inside.Own.{IsOwnOf, IsShownFor, own_cell};
 ghost use Rattle.tile_tasks.specs.declared.own.Own.TheVariants.{Handed};
 

@@ -9,10 +9,10 @@ ghost use Rattle.map_meaning.specs.Spans.{scene_of};
 ghost use Rattle.span_operands.specs.Made.{IsKnown, span_start};
 ghost use Rattle.span_operands.specs.inside.Scopes.{IsScopeOf};
 ghost use Rattle.task_laws.specs.Zones.{tile_zones, zones_in};
-ghost use Rattle.tile_tasks.specs.Areas.{IsPartial, IsPartialOf, IsZone, ReadsTotal, ReadsZones, class_operand, zone_classes_at, value_operand, zone_values_at, zone_op};
-ghost use Rattle.tile_tasks.specs.Tasks.{IsTaskAt, SomeDone};
-ghost use Rattle.task_tiles.specs.TaskTiles.{tile_part};
-ghost use Rattle.tile_tasks.specs.Tiles.{tile_handed};
+ghost use Rattle.tile_tasks.specs.inside.Areas.{IsPartial, IsPartialOf, IsZone, ReadsTotal, ReadsZones, class_operand, value_operand, zone_op};
+ghost use Rattle.tile_tasks.specs.inside.Tasks.{IsTaskAt, SomeDone};
+ghost use Rattle.task_tiles.specs.TaskTiles.{classes_at, tile_part, values_at};
+ghost use Rattle.tile_tasks.specs.inside.Tiles.{tile_handed};
 
 use crate::areas::{tile_partial, tile_spread};
 use crate::local::{many, tile_size};
@@ -113,7 +113,7 @@ pub fn partial_task(
     requires task { IsTaskAt program.now span known.now tiling.now step tile operation }
     requires reads { SomeDone (ReadsZones program.now span known.now tiling.now step tile (value_operand scope operation) (class_operand scope operation) (map arc_value tiles.now)) }
     ensures op { IfOk result (λ partial. partial.op ≡ zone_op scope) }
-    ensures stands { IfOk result (λ partial. (done : Done) → ReadsZones program.now span known.now tiling.now step tile (value_operand scope operation) (class_operand scope operation) (map arc_value tiles.now) done → StandsFor partial (zones_in tiling.now.cols (rect_of tiling.now tile) (zone_values_at program.now known.now step done operation) (zone_classes_at program.now known.now step done operation))) }
+    ensures stands { IfOk result (λ partial. (done : Done) → ReadsZones program.now span known.now tiling.now step tile (value_operand scope operation) (class_operand scope operation) (map arc_value tiles.now) done → StandsFor partial (zones_in tiling.now.cols (rect_of tiling.now tile) (values_at program.now known.now step done operation) (classes_at program.now known.now step done operation))) }
 {
     let op = zone_op(scope);
     let values = value_operand(scope, operation);

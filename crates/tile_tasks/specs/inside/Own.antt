@@ -17,8 +17,8 @@ use Rattle.tile_tasks.specs.declared.own.Own.{Own}
 use Rattle.tile_tasks.specs.declared.own.Own.TheVariants.{Unused, One, Cut, Handed}
 use Rattle.task_tiles.specs.declared.tile.Tile.{Tile}
 use Rattle.tile_tasks.specs.declared.own.Operands.{Operands}
-use Rattle.tile_tasks.specs.Tasks.{many_for}
-use Rattle.tile_tasks.specs.Tiles.{IsMapTile, part_cells, tile_handed}
+use Rattle.tile_tasks.specs.inside.Tasks.{many_for}
+use Rattle.tile_tasks.specs.inside.Tiles.{IsMapTile, part_cells, tile_handed}
 use Rattle.map_meaning.specs.declared.program.Operation.{Operation}
 
 -- the cell with a number; those of an operand that is handed in are the tile's

@@ -30,9 +30,9 @@ loop-tile-preserved c =
     let ts : List Tile = map arc_value c.args.tiles.now in
     let i : ℕ = c.loop-tile.tile-index in
     let below : i < length ts = omega (arith, length-map c.args.tiles.now arc_value, c.loop-tile-test.true) in
-    merging_more c.args.op c.args.tiling.now ts i c.loop-tile.total c.take_in.new.total c.deref.result.now c.loop-tile.invariant below
+    merging_more c.args.op c.args.tiling.now ts i c.loop-tile.total c.in_ok-total-2.total c.deref.result.now c.loop-tile.invariant below
     (c.deref.ensures ∙ sym (item_at arc_value c.args.tiles.now i c.tile-item.result c.tile-item.is c.loop-tile-test.true))
-    c.in_ok-take_in.ensures.op c.in_ok-take_in.ensures.stands
+    c.in_ok-total-2.ensures.op c.in_ok-total-2.ensures.stands
 
 pub returns-clause-op : goal.returns-clause-op
 returns-clause-op c = c.loop-tile.invariant.op

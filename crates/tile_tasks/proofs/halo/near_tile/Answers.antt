@@ -23,8 +23,8 @@ near_part-requires c =
       around_it = near_surrounded g known c.args.tile f m c.as_slice.result.now c.as_slice-2.result.now c.rect-inner.result c.halo-around.result c.drain_map-drain.ensures.sound c.drain_map-drain.ensures.rows c.drain_map-drain.ensures.cols
           c.requires.task.rows c.requires.task.cols c.requires.task.in_tiling c.rect-inner.ensures.value c.halo-around.ensures.value
           (c.as_slice.ensures.value ∙ (c.in_ok-codes.ensures ∙ ap (λ (xs : List Cell). cut_of g.cols xs c.halo-around.result) c.cells.ensures.value))
-          (c.as_slice-2.ensures.value ∙ c.in_ok-cells.ensures.cells done (rw c.halo-around.ensures.value c.requires.reads.1))
-          (c.requires.scalars done c.requires.reads.1);
+          (c.as_slice-2.ensures.value ∙ c.in_ok-cells.ensures.cells done (rw c.halo-around.ensures.value c.requires.reads.1.around))
+          c.requires.reads.1.scalars;
     }
 
 pub returns : goal.returns
@@ -37,8 +37,8 @@ returns c = λ done reads.
     let around_it = near_surrounded g known c.args.tile f m c.as_slice.result.now c.as_slice-2.result.now c.rect-inner.result c.halo-around.result c.drain_map-drain.ensures.sound c.drain_map-drain.ensures.rows c.drain_map-drain.ensures.cols
     c.requires.task.rows c.requires.task.cols c.requires.task.in_tiling c.rect-inner.ensures.value c.halo-around.ensures.value
     (c.as_slice.ensures.value ∙ (c.in_ok-codes.ensures ∙ ap (λ (xs : List Cell). cut_of g.cols xs c.halo-around.result) c.cells.ensures.value))
-    (c.as_slice-2.ensures.value ∙ c.in_ok-cells.ensures.cells done (rw c.halo-around.ensures.value reads))
-    (c.requires.scalars done reads) in
+    (c.as_slice-2.ensures.value ∙ c.in_ok-cells.ensures.cells done (rw c.halo-around.ensures.value reads.around))
+    reads.scalars in
     c.in_ok-part.ensures m (tabulate f (m.rows * m.cols)) around_it
     ∙ near_is c.args.program.now known c.args.step done o c.args.op m c.rect-inner.result (rect_of g c.args.tile) c.requires.scope.0 c.requires.scope.1 c.drain_map-drain.ensures.sound c.drain_map-drain.ensures.rows c.drain_map-drain.ensures.cols
-    (c.drain_map-drain.ensures.codes ∙ sym (ap (λ (maps : List WholeMap). nth maps o.drain) reads.agrees.drains)) c.rect-inner.ensures.value
+    (c.drain_map-drain.ensures.codes ∙ sym (ap (λ (maps : List WholeMap). nth maps o.drain) reads.around.agrees.drains)) c.rect-inner.ensures.value

@@ -1,8 +1,8 @@
 -- The cells of the operands.
 use Rattle.std.proofs.Common.{◌+◌, ℕ, List, map, ◌∙◌, ap}
 use Rattle.std.specs.Arc.{arc_value}
-use Rattle.tile_tasks.specs.Tasks.{many_for}
-use Rattle.tile_tasks.specs.Tiles.{tile_handed}
+use Rattle.tile_tasks.specs.inside.Tasks.{many_for}
+use Rattle.tile_tasks.specs.inside.Tiles.{tile_handed}
 use Rattle.task_tiles.specs.declared.tile.Tile.{Tile}
 use Rattle.tile_tasks.specs.inside.Own.{own_cell}
 use Rattle.tile_tasks.proofs.local.computed.Goals as goal

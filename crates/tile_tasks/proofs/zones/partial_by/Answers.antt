@@ -5,8 +5,8 @@ use Rattle.tile_map.specs.Args.{SpansPlaces}
 use Rattle.map_meaning.specs.Evaluation.{operand_cell}
 use Rattle.map_meaning.specs.Maps.{CellAt}
 use Rattle.map_meaning.specs.Spans.{scene_of}
-use Rattle.tile_tasks.specs.Tasks.{many_for}
-use Rattle.tile_tasks.specs.Tiles.{tile_handed}
+use Rattle.tile_tasks.specs.inside.Tasks.{many_for}
+use Rattle.tile_tasks.specs.inside.Tiles.{tile_handed}
 use Rattle.task_tiles.specs.declared.tile.Tile.{Tile}
 use Rattle.tile_tasks.specs.inside.Own.{IsShownFor, own_cell}
 use Rattle.tile_tasks.proofs.OwnLemmas.{own_shown, own_shows}

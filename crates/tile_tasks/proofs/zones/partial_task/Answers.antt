@@ -6,7 +6,8 @@ use Rattle.map_meaning.specs.Evaluation.{operand_cell}
 use Rattle.map_meaning.specs.Maps.{CellAt}
 use Rattle.map_meaning.specs.Spans.{scene_of}
 use Rattle.task_laws.specs.Zones.{zones_in}
-use Rattle.tile_tasks.specs.Areas.{class_operand, zone_values_at}
+use Rattle.task_tiles.specs.TaskTiles.{values_at}
+use Rattle.tile_tasks.specs.inside.Areas.{class_operand}
 use Rattle.tile_tasks.proofs.ZoneMeanings.{class_known, classes_are, value_known, values_are}
 use Rattle.tile_tasks.proofs.zones.partial_task.Goals as goal
 
@@ -25,5 +26,5 @@ returns-clause-stands c = λ done reads.
     let r = rect_of g c.args.tile in
     let cell = operand_cell (scene_of program.inputs known c.args.step) done in
     let stands = rw (c.value_operand-values.ensures, c.class_operand-classes.ensures) at c.in_ok-partial.ensures.stands in
-    subst (λ (f : CellAt). StandsFor c.in_ok-partial.partial (zones_in g.cols r (zone_values_at program known c.args.step done o) f)) (sym (classes_are program known c.args.step done c.args.scope o c.requires.zone c.requires.scope))
+    subst (λ (f : CellAt). StandsFor c.in_ok-partial.partial (zones_in g.cols r (values_at program known c.args.step done o) f)) (sym (classes_are program known c.args.step done c.args.scope o c.requires.zone c.requires.scope))
     (subst (λ (f : CellAt). StandsFor c.in_ok-partial.partial (zones_in g.cols r f (cell (class_operand c.args.scope o)))) (sym (values_are program known c.args.step done c.args.scope o c.requires.zone c.requires.scope)) (stands done reads))

@@ -8,8 +8,9 @@ use Rattle.tile_map.specs.Tiles.{rect_of, tile_count}
 use Rattle.map_meaning.specs.Maps.{CellAt}
 use Rattle.task_laws.specs.Zones.{tile_zones}
 use Rattle.tile_cuts.specs.TileParts.{part_in}
-use Rattle.tile_tasks.specs.Areas.{class_operand, zone_classes_at, zone_values_at, zone_op}
-use Rattle.tile_tasks.specs.Tiles.{tile_handed}
+use Rattle.task_tiles.specs.TaskTiles.{classes_at, values_at}
+use Rattle.tile_tasks.specs.inside.Areas.{class_operand, zone_op}
+use Rattle.tile_tasks.specs.inside.Tiles.{tile_handed}
 use Rattle.task_tiles.specs.declared.tile.Tile.{Tile}
 use Rattle.tile_tasks.proofs.OwnLemmas.{own_shown, own_shows}
 use Rattle.tile_tasks.proofs.ZoneMeanings.{class_known, classes_are, partial_op, partial_stands, spread_is}
@@ -34,8 +35,8 @@ returns c = λ done reads.
     let step = c.args.step in
     let r = rect_of g c.args.tile in
     let ts : List Tile = map arc_value c.args.tiles.now in
-    let f = zone_values_at program known step done o in
-    let h = zone_classes_at program known step done o in
+    let f = values_at program known step done o in
+    let h = classes_at program known step done o in
     let zones = tile_zones g f h (tile_count g) in
     let total = c.handed_total-total.result.now in
     let own = rw c.class_operand-classes.ensures at c.in_ok-own.ensures in

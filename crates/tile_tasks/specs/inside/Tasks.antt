@@ -1,5 +1,7 @@
 -- Tasks of an operation at a step of a span, what they read, and what they give.
-use Rattle.std.specs.Prelude.{◌≡◌, ◌<◌, ◌≤◌, ◌+◌, ℕ, List, length, true, if◌then◌else◌}
+use Rattle.std.specs.Prelude.{◌≡◌, ◌<◌, ◌≤◌, ◌+◌, ◌*◌, ℕ, List, length, true, if◌then◌else◌}
+use Rattle.cell_values.specs.declared.kind.Kind.TheVariants.{Scalar}
+use Rattle.cell_values.specs.Kinds.{IsCell}
 use Rattle.tile_map.specs.Tiles.{tile_count}
 use Rattle.tile_map.specs.declared.tiling.Tiling.{Tiling}
 use Rattle.map_meaning.specs.declared.known.Known.{Known}
@@ -11,7 +13,7 @@ use Rattle.map_meaning.specs.Evaluation.{Done, operand_cell}
 use Rattle.map_meaning.specs.Spans.{scene_of}
 use Rattle.span_operands.specs.Made.{AgreesWith, IsKnown, span_start, is_made}
 use Rattle.span_operands.specs.inside.Held.{IsOneOf}
-use Rattle.tile_tasks.specs.Tiles.{StandFrom}
+use Rattle.tile_tasks.specs.inside.Tiles.{StandFrom}
 use Rattle.task_tiles.specs.declared.tile.Tile.{Tile}
 
 -- how many tiles are handed in for an operand, of so many that its map has there
@@ -55,3 +57,10 @@ pub record ReadsAround (program : Program) (s : Span) (known : Known) (g : Tilin
     (ts : List Tile) (done : Done) : Type 0 where
   pub agrees : AgreesWith program s known step done
   pub handed : AreHandedIn program s known g step done numbers operand 0 ts
+
+-- the same of an operand that has scalars
+pub record ReadsScalars (program : Program) (s : Span) (known : Known) (g : Tiling) (step : ℕ) (numbers : List ℕ) (operand : Operand)
+    (ts : List Tile) (done : Done) : Type 0 where
+  pub around : ReadsAround program s known g step numbers operand ts done
+  pub scalars : (place : ℕ) → place < known.rows * known.cols →
+      IsCell Scalar (operand_cell (scene_of program.inputs known step) done operand place)

@@ -1,5 +1,5 @@
 -- Tiles of operations over areas, and over the whole map.
-use Rattle.std.specs.Prelude.{◌≡◌, ◌<◌, ℕ, pos, List, [], ◌∷◌, length, map}
+use Rattle.std.specs.Prelude.{◌≡◌, ◌<◌, ℕ, pos, List, [], ◌∷◌, length}
 use Rattle.tile_map.specs.Args.{arg_cell}
 use Rattle.tile_map.specs.Rects.{cell_count, place_in}
 use Rattle.tile_map.specs.Tiles.{rect_of, tile_count}
@@ -17,19 +17,17 @@ use Rattle.map_meaning.specs.declared.program.Operand.{Operand}
 use Rattle.map_meaning.specs.declared.program.Operand.TheVariants.{Literal}
 use Rattle.map_meaning.specs.declared.program.Operation.{Operation}
 use Rattle.map_meaning.specs.declared.program.Program.{Program}
-use Rattle.map_meaning.specs.Evaluation.{Done, operand_cell}
-use Rattle.map_meaning.specs.Programs.{operands_of}
-use Rattle.map_meaning.specs.Rules.{rule_of}
-use Rattle.map_meaning.specs.Spans.{scene_of}
+use Rattle.map_meaning.specs.Evaluation.{Done}
 use Rattle.span_operands.specs.Made.{AgreesWith}
 use Rattle.span_operands.specs.declared.scope.Scope.{Scope}
 use Rattle.span_operands.specs.declared.scope.Scope.TheVariants as scope
-use Rattle.tile_tasks.specs.Tasks.{AreHandedIn, many_for}
+use Rattle.tile_tasks.specs.inside.Tasks.{AreHandedIn, many_for}
 use Rattle.area_ops.specs.Partials.{PartialValue, StandsFor}
-use Rattle.task_laws.specs.Zones.{zone_classes, tile_zones, zone_values, zones_in}
+use Rattle.task_laws.specs.Zones.{tile_zones, zones_in}
+use Rattle.task_tiles.specs.TaskTiles.{classes_at, values_at}
 use Rattle.task_tiles.specs.declared.tile.Tile.{Tile}
 use Rattle.task_tiles.specs.declared.tile.Tile.TheVariants.{Part, Partial}
-use Rattle.tile_tasks.specs.Tiles.{IsPartialFor, tile_handed}
+use Rattle.tile_tasks.specs.inside.Tiles.{IsPartialFor, tile_handed}
 
 -- an operand has by the numbers of a rectangle's cells what a map has at its places
 abbrev pub ShowsTile : ℕ → Rect → CellAt → Arg → Type 0
@@ -86,16 +84,6 @@ class_operand (scope.Zonal a) o = o.b
 class_operand scope.ZoneSize o = o.a
 class_operand _ o = Literal kind.Nominal (Val (pos 1))
 
--- the values of an operation, where this is done
-abbrev pub zone_values_at : Program → Known → ℕ → Done → Operation → CellAt
-zone_values_at program known step done o =
-    zone_values (rule_of o.op) (map (operand_cell (scene_of program.inputs known step) done) (operands_of o))
-
--- the classes of an operation, where this is done
-abbrev pub zone_classes_at : Program → Known → ℕ → Done → Operation → CellAt
-zone_classes_at program known step done o =
-    zone_classes (rule_of o.op) (map (operand_cell (scene_of program.inputs known step) done) (operands_of o))
-
 -- the tiles of the values' and of the classes' maps are handed in
 pub record ReadsZones (program : Program) (s : Span) (known : Known) (g : Tiling) (step tile : ℕ) (values classes : Operand)
     (ts : List Tile) (done : Done) : Type 0 where
@@ -109,7 +97,7 @@ pub record ReadsTotal (program : Program) (s : Span) (known : Known) (g : Tiling
   pub agrees : AgreesWith program s known step done
   pub within : 0 < length ts
   pub total : IsPartialFor a
-      (tile_zones g (zone_values_at program known step done o) (zone_classes_at program known step done o) (tile_count g))
+      (tile_zones g (values_at program known step done o) (classes_at program known step done o) (tile_count g))
       (tile_handed ts 0)
   pub of_classes : AreHandedIn program s known g step done (tile ∷ []) classes 1 ts
 
