@@ -22,12 +22,15 @@ use Rattle.task_states.specs.declared.states.TaskState.{TaskState}
 use Rattle.task_states.specs.declared.states.TaskState.TheVariants.{Ready, Held, Parked, Due, Published}
 use Rattle.task_states.specs.declared.states.TaskStates.{TaskStates}
 use Rattle.task_states.proofs.Callers.{in_times, none_unmet, times_in, unmet_none, unmet_published, unmet_ready}
+use Rattle.map_meaning.specs.declared.known.OverAt.{OverAt}
 use Rattle.task_tiles.specs.TaskTiles.{IsPlanned}
 use Rattle.task_tiles.specs.declared.tile.Tile.{Tile}
 use Rattle.task_board.specs.Boards.{IsTileFor, NoneClaimable}
 use Rattle.task_board.specs.Tiles.{AreTilesOf, HasNoTile, hands_out_at}
 use Rattle.task_board.specs.inside.Held.{IsBoard, IsCopy, IsNeeded, IsNotNeeded, Parts, board_of, state_in, steps_at_most, tile_for}
+use Rattle.task_board.specs.inside.Noted.{IsFirstNoted}
 use Rattle.task_board.proofs.Lists.{zip_map}
+use Rattle.task_board.proofs.NoteLemmas.{first_like, none_noted}
 
 -- who reads a task, by the plan
 pub reads_it : (p : PlanGraphValue) (t : ℕ) → IsPlan p → t < p.tasks → ReadsIt (graph_of p) t (list_at p.readers t)
@@ -92,8 +95,8 @@ pub opening_board : (x : Parts) → x.history ≡ [] → IsPlan x.plan → IsPla
     → Reflects (graph_of x.plan) x.workers opening x.states → length x.tiles ≡ x.plan.tasks → ((k : ℕ) → tile_for x.tiles k ≡ None)
     → length x.unread ≡ x.plan.tasks → ((t : ℕ) → t < x.plan.tasks → get_or x.unread t 0 ≡ length (list_at x.plan.readers t))
     → length x.kept ≡ x.plan.tasks → ((t : ℕ) → t < x.plan.tasks → get_or x.kept t false ≡ hands_out_at x.plan.plan x.program x.plan.span t)
-    → x.works ≡ x.plan.tasks → steps_at_most x.plan x.workers ≤ x.room → IsBoard x
-opening_board x none' plan planned few shows all_tiles no_tiles all_unread reads all_kept keeps all_works enough =
+    → x.works ≡ x.plan.tasks → steps_at_most x.plan x.workers ≤ x.room → x.over ≡ None → IsBoard x
+opening_board x none' plan planned few shows all_tiles no_tiles all_unread reads all_kept keeps all_works enough no_over =
     let at : state_in x ≡ opening = ap (λ (l : List Step). after (graph_of x.plan) l) none' in
     record {
       plan = plan;
@@ -110,6 +113,8 @@ opening_board x none' plan planned few shows all_tiles no_tiles all_unread reads
       has = λ t lt is. absurd (let z : ready ≡ published = ap (λ (s : Core). s.status t) (sym at) ∙ is in cc);
       lacks = λ t lt _. no_tiles t;
       enough = enough;
+      overs = subst (λ (o : Option OverAt). IsFirstNoted x.plan x.program x.known (state_in x).status o) (sym no_over)
+          (none_noted x.plan x.program x.known (state_in x).status (λ t is. let z : ready ≡ published = ap (λ (s : Core). s.status t) (sym at) ∙ is in cc));
     }
 
 module _ {x : Parts} (b : IsBoard x) where
@@ -150,6 +155,7 @@ module _ {x : Parts} (b : IsBoard x) where
     has = b.has;
     lacks = b.lacks;
     enough = b.enough;
+    overs = b.overs;
   }
 
   -- by equal parts
@@ -169,6 +175,7 @@ module _ {x : Parts} (b : IsBoard x) where
     has = b.has;
     lacks = b.lacks;
     enough = let k = b.enough in omega arith;
+    overs = b.overs;
   }
 
   -- a step that publishes nothing
@@ -192,6 +199,7 @@ module _ {x : Parts} (b : IsBoard x) where
         has = λ t lt is need. b.has t lt (published_like _ _ (open' t) is) need;
         lacks = λ t lt h. b.lacks t lt (⊎_elim (λ ne. inl (λ is. ne (published_like _ _ (sym (open' t)) is))) (λ k. inr k) h);
         enough = b.enough;
+        overs = first_like x.plan x.program x.known (state_in x).status (after (graph_of x.plan) (x.history ++ s ∷ [])).status x.over (λ t. sym (open' t)) b.overs;
       }
 
   -- where the stack is empty, no task can be claimed

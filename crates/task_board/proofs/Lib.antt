@@ -3,3 +3,9 @@ pub mod ReadLemmas
 pub mod BoardLemmas
 pub mod PublishLemmas
 pub mod DriveLemmas
+pub mod NoteLemmas
+pub mod SpanTasks
+pub mod PartOvers
+pub mod SpanNotes
+pub mod ToldLemmas
+pub mod MapLemmas

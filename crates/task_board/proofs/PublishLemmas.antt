@@ -17,16 +17,20 @@ use Rattle.plan_graph.specs.PlanGraphs.{graph_of, list_at}
 use Rattle.task_states.specs.States.{Reflects, unmet_of, unpublished}
 use Rattle.task_states.specs.declared.states.TaskStates.{TaskStates}
 use Rattle.task_states.proofs.Callers.{unmet_published}
+use Rattle.map_meaning.specs.declared.known.OverAt.{OverAt}
 use Rattle.task_tiles.specs.declared.tile.Tile.{Tile}
 use Rattle.task_board.specs.Boards.{IsTileFor}
 use Rattle.task_board.specs.inside.Held.{AreRead, IsPutAmong, IsBoard, IsNeeded, IsNotNeeded, Parts, board_of, state_in, tile_for}
+use Rattle.task_board.specs.inside.Noted.{IsEarlierOf, IsFirstNoted, tile_note}
 use Rattle.task_board.proofs.BoardLemmas.{after_one}
+use Rattle.task_board.proofs.NoteLemmas.{first_published}
 
 module _ {x : Parts} (b : IsBoard x) (w t : ℕ) (ss : TaskStates) (tiles new : List (Option (Arc Tile Global))) (unread : List ℕ)
     (lt : t < x.plan.tasks) (is : (state_in x).status t ≡ held w) (en : Enabled (graph_of x.plan) (state_in x) x.workers (Publish w t))
     (r : Reflects (graph_of x.plan) x.workers (effect (graph_of x.plan) (state_in x) (Publish w t)) ss)
     (tile : Arc Tile Global) (shows : IsTileFor (board_of x) t (arc_value tile)) (many : length new ≡ length x.tiles) (many_unread : length unread ≡ length x.unread)
-    (put : IsPutAmong x.tiles tiles x.unread x.kept t tile) (up : AreRead tiles new x.unread unread x.kept (list_at x.plan.needs t)) where
+    (put : IsPutAmong x.tiles tiles x.unread x.kept t tile) (up : AreRead tiles new x.unread unread x.kept (list_at x.plan.needs t))
+    (over : Option OverAt) (earlier : IsEarlierOf x.over (tile_note x.plan x.program t (arc_value tile)) over) where
   now : Core
   now = after (graph_of x.plan) (x.history ++ Publish w t ∷ [])
 
@@ -77,7 +81,7 @@ module _ {x : Parts} (b : IsBoard x) (w t : ℕ) (ss : TaskStates) (tiles new : 
       let c = up.counts u in let y = b.plan.read_by u t u_lt lt in let o = b.reads u u_lt in omega arith
 
   -- a publication
-  pub published_board : IsBoard (record x { history = x.history ++ Publish w t ∷ []; states = ss; tiles = new; unread = unread })
+  pub published_board : IsBoard (record x { history = x.history ++ Publish w t ∷ []; states = ss; tiles = new; unread = unread; over = over })
   unfolding now
   published_board = record {
     plan = b.plan;
@@ -94,4 +98,6 @@ module _ {x : Parts} (b : IsBoard x) (w t : ℕ) (ss : TaskStates) (tiles new : 
     has = has_now;
     lacks = lacks_now;
     enough = b.enough;
+    overs = subst (λ (s : Core). IsFirstNoted x.plan x.program x.known s.status over) (sym now_is)
+        (first_published x.plan x.program x.known (state_in x).status t lt (arc_value tile) shows x.over over earlier b.overs);
   }

@@ -9,7 +9,7 @@ ghost use Rattle.task_board.specs.Boards.{IsLegal, IsOfItsSpan, new_board, state
 use crate::fresh::{empties, kept_tasks, need_counts, reader_counts};
 use core_model::Step;
 use flow_task::FlowKit;
-use map_meaning::{Known, Program};
+use map_meaning::{Known, OverAt, Program};
 use plan_graph::PlanGraph;
 use std::alloc::{AllocError, Global};
 use std::marker::Model;
@@ -36,6 +36,8 @@ pub struct Board<K: FlowKit> {
     pub(crate) works: Vec<Option<K::Work>>,
     /// The steps that were made, with room for every run.
     pub(crate) history: Vec<Step>,
+    /// The first of what the tiles of published tasks note.
+    pub(crate) over: Option<OverAt>,
 }
 
 impl<K: FlowKit> Model for Board<K> {
@@ -66,6 +68,7 @@ impl<K: FlowKit> Model for Board<K> {
       works = length b.works.items;
       history = b.history.items;
       room = vec_capacity b.history;
+      over = b.over;
     } };
 }
 
@@ -104,6 +107,7 @@ impl<K: FlowKit> Board<K> {
             kept,
             works,
             history,
+            over: None,
         })
     }
 
@@ -167,6 +171,7 @@ impl<K: FlowKit> Drop for Board<K> {
             kept: _,
             works: _,
             history: _,
+            over: _,
         } = self;
     }
 }

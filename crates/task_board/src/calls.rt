@@ -7,6 +7,7 @@ ghost use Rattle.task_board.specs.Boards.{HoldsTask, IsDone, IsFree, IsLegal, Is
 ghost use Rattle.task_board.specs.Claims.{ClaimGives};
 
 use crate::board::Board;
+use crate::noted::{earlier, noted};
 use crate::ticket::{Claim, Ticket};
 use crate::unread::put_and_give_up;
 use core_model::Step;
@@ -49,6 +50,8 @@ impl<K: FlowKit> Board<K> {
             task,
             work: _,
         } = ticket;
+        let note = noted(&self.plan, &self.program, &self.known, task, &tile);
+        self.over = earlier(self.over, note);
         self.states.publish(worker, task, self.plan.readers(task));
         put_and_give_up(
             self.tiles.as_mut_slice(),

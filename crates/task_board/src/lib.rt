@@ -3,12 +3,14 @@
 
 mod board;
 mod calls;
+mod collect;
 mod computing;
 mod drive;
 mod fresh;
 mod inputs;
 mod jobs;
 mod looks;
+mod noted;
 mod ticket;
 mod unread;
 

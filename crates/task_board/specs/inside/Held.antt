@@ -9,6 +9,7 @@ use Rattle.core_model.specs.declared.step.Step.{Step}
 use Rattle.core_model.specs.Cores.{published, Core}
 use Rattle.core_model.specs.Runs.{after, Legal}
 use Rattle.map_meaning.specs.declared.known.Known.{Known}
+use Rattle.map_meaning.specs.declared.known.OverAt.{OverAt}
 use Rattle.map_meaning.specs.declared.program.Program.{Program}
 use Rattle.number_lists.specs.Turned.{times}
 use Rattle.plan_graph.specs.PlanGraphs.{graph_of, IsPlan, PlanGraphValue, list_at}
@@ -18,6 +19,7 @@ use Rattle.task_tiles.specs.TaskTiles.{IsPlanned, IsTaskTile}
 use Rattle.task_tiles.specs.declared.tile.Tile.{Tile}
 use Rattle.task_board.specs.Boards.{BoardValue}
 use Rattle.task_board.specs.Tiles.{hands_out_at}
+use Rattle.task_board.specs.inside.Noted.{IsFirstNoted}
 
 -- the parts of a board
 pub record Parts : Type 0 where
@@ -32,6 +34,7 @@ pub record Parts : Type 0 where
   pub works : ℕ
   pub history : List Step
   pub room : ℕ
+  pub over : Option OverAt
 
 -- the board that they are the parts of
 abbrev pub board_of : Parts → BoardValue
@@ -99,3 +102,4 @@ pub record IsBoard (x : Parts) : Type 0 where
       → IsSomeAnd (tile_for x.tiles t) (λ a. IsTaskTile x.plan.plan x.plan.span x.program x.known t (arc_value a))
   pub lacks : (t : ℕ) → t < x.plan.tasks → ((state_in x).status t ≢ published) ⊎ IsNotNeeded x t → tile_for x.tiles t ≡ None
   pub enough : steps_at_most x.plan x.workers ≤ x.room
+  pub overs : IsFirstNoted x.plan x.program x.known (state_in x).status x.over

@@ -1,4 +1,4 @@
-use Rattle.std.proofs.Common.{◌≡◌, ℕ, ◌<◌, List, length, get_or, ap, sym, ◌∙◌, subst, arith, vec_capacity}
+use Rattle.std.proofs.Common.{None, refl, ◌≡◌, ℕ, ◌<◌, List, length, get_or, ap, sym, ◌∙◌, subst, arith, vec_capacity}
 use Rattle.std.specs.Arc.{arc_value}
 use Rattle.plan_graph.specs.PlanGraphs.{graph_of, IsPlan, PlanGraphValue, list_at}
 use Rattle.task_board.proofs.BoardLemmas.{opening_board}
@@ -34,8 +34,9 @@ invariant_of-result g c =
       works = length c.in_ok-works.works.items;
       history = c.in_ok-history.history.items;
       room = vec_capacity c.in_ok-history.history;
+      over = None;
     }
     c.in_ok-history.ensures.items plan c.requires.plan c.requires.workers (c.in_ok-states.ensures (graph_of p) counts)
     (c.in_ok-tiles.ensures.all ∙ tasks) c.in_ok-tiles.ensures.none reads.0 reads.1 keeps.0
     (λ t lt. keeps.1 t lt ∙ ap (λ (z : Program). hands_out_at p.plan z p.span t) c.deref-6.ensures)
-    (c.in_ok-works.ensures.all ∙ tasks) (let k = c.in_ok-history.ensures.exact in omega arith)
+    (c.in_ok-works.ensures.all ∙ tasks) (let k = c.in_ok-history.ensures.exact in omega arith) refl

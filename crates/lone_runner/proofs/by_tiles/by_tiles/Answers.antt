@@ -1,0 +1,21 @@
+use Rattle.std.proofs.Common.{◌∙◌, ap, subst, sym}
+use Rattle.map_meaning.specs.declared.known.Known.{Known as TheKnown}
+use Rattle.map_meaning.specs.declared.program.Program.{Program as TheProgram}
+use Rattle.plan_graph.specs.PlanGraphs.{IsLocal, IsPlanOf, PlanGraphValue}
+use Rattle.task_board.specs.Boards.{BoardValue}
+use Rattle.lone_runner.proofs.PlanLemmas.{is_planned}
+use Rattle.lone_runner.proofs.by_tiles.by_tiles.Goals as goal
+
+pub make-requires-clause-plan : goal.make-requires-clause-plan
+make-requires-clause-plan g c =
+    let p : PlanGraphValue = c.in_ok-plan.plan in
+    let program : TheProgram = c.args.program.now.value in
+    let known : TheKnown = c.args.known.now.value in
+    let of : IsPlanOf program known c.args.tiling.now p = subst (λ (x : TheProgram). IsPlanOf x known c.args.tiling.now p) c.deref.ensures (c.in_ok-plan.ensures.of known) in
+    rw (c.in_ok-plan-2.ensures.ok, c.in_ok-program.ensures, c.in_ok-known.ensures)
+    (is_planned p c.args.span program known c.args.tiling.now c.requires.program c.requires.span c.requires.known c.requires.rows c.requires.cols
+    c.in_ok-plan.ensures.span of)
+
+pub drive_alone-requires-clause-local : goal.drive_alone-requires-clause-local
+drive_alone-requires-clause-local g c =
+    subst IsLocal (sym (ap (λ (b : BoardValue). b.plan) c.in_ok-board.ensures ∙ c.in_ok-plan-2.ensures.ok)) c.in_ok-plan.ensures.local

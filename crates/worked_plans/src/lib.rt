@@ -1,0 +1,14 @@
+//! Tests of plans: how many tasks, what each reads, who reads it, and border edges. The programs are those of scripts; the numbers
+//! were worked out by hand. The crate has tests alone.
+#![tactic(auto)]
+
+#[cfg(test)]
+mod blocks;
+#[cfg(test)]
+mod counts;
+#[cfg(test)]
+mod edges;
+#[cfg(test)]
+mod maps;
+#[cfg(test)]
+mod plans;
