@@ -1,0 +1,3 @@
+pub mod Negatives
+pub mod Numbers
+pub mod Points
