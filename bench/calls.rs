@@ -462,7 +462,9 @@ fn time_windows() {
     say("minimum_near", 5, window_minimum, 1, &cells);
     say("minimum_wide", 5, window_minimum, 15, &cells);
     say("diversity_near", 2, window_diversity, 1, &classes);
+    say("diversity_wide", 1, window_diversity, 15, &classes);
     say("majority_near", 2, window_majority, 1, &classes);
+    say("majority_wide", 1, window_majority, 15, &classes);
 }
 
 /// The average of each class of a map, at each of its cells, and then a pass that spreads. What is kept of classes that lie close together

@@ -72,7 +72,9 @@ fn time_numbers<R: Clock + Print + AllocGlobal>(rt: &R, cells: &[Cell]) -> Resul
 // Times the operations that count classes.
 fn time_classes<R: Clock + Print + AllocGlobal>(rt: &R, cells: &[Cell]) -> Result<(), Fail> {
     time_op(rt, 2, "diversity_near", WindowOp::Diversity, 1, cells)?;
-    time_op(rt, 2, "majority_near", WindowOp::Majority, 1, cells)
+    time_op(rt, 1, "diversity_wide", WindowOp::Diversity, 15, cells)?;
+    time_op(rt, 2, "majority_near", WindowOp::Majority, 1, cells)?;
+    time_op(rt, 1, "majority_wide", WindowOp::Majority, 15, cells)
 }
 
 /// Times operations over windows of 3 by 3 cells (`near`) and of 31 by 31 (`wide`), and prints the best round of each in
