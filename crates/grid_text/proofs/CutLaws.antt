@@ -140,12 +140,14 @@ no_end kind rows cols h cut pairs rest nodata head cells e = by_many e.many refl
         let none = values_named Size pairs _ [] e.same (no_size e.many rows cols h.x_center h.y_center h.x h.y h.size few) in
         let bad : [] ≡ cut.head.size ∷ [] = sym none ∙ head.has_size in
         absurd (cc)
+
     late : e.many ≡ 5 → ⊥
     late five =
         let none = values_named Nodata pairs _ [] (e.same ∙ ap (λ n. take n (head_pairs rows cols h)) five) (no_missing rows cols h.x_center h.y_center h.x h.y h.size) in
         let usual : default_nodata ≡ nodata = some_is _ _ (ap nodata_of (sym none) ∙ head.has_nodata) in
         let (cell, is) = first_cell kind nodata e.token cut.cells (ap (map (λ (u : Token). cell_of_token kind nodata u.bytes)) (sym e.alone) ∙ cells) in
         key_front_none kind e.token.bytes cell (subst (λ n. GoesOn (get_or (head_pairs rows cols h) n ([], [])).0 e.token.bytes) five e.front) e.some (ap (λ n. cell_of_token kind n e.token.bytes) usual ∙ is)
+
     by_many : (n : ℕ) → n ≡ e.many → ⊥
     by_many zero is = early (omega (arith, is))
     by_many (suc zero) is = early (omega (arith, is))
@@ -233,7 +235,7 @@ cut_grids_lose_the_last_cell_alone kind grid cut text lost values is g =
     let few_rows : grid.rows ≤ 4194304 = omega (arith, one_of_many grid.cols grid.rows within.some_cols, mul_comm grid.rows grid.cols, within.few) in
     let words = head_words grid.rows grid.cols grid.head (row_lines kind grid.rows grid.cols grid.cells) (map (printed_cell kind) grid.cells) (omega (arith, few_rows)) (omega (arith, few_cols)) values.x values.y values.size (rows_words kind grid.rows grid.cols grid.cells values.cells values.count) in
     let front : AreFirst (words_of (tokens_of_pairs g.pairs ++ g.cell_tokens)) (flat (head_pairs grid.rows grid.cols grid.head) ++ map (printed_cell kind) grid.cells) =
-        subst (λ ts. AreFirst (words_of ts) (flat (head_pairs grid.rows grid.cols grid.head) ++ map (printed_cell kind) grid.cells)) g.parts.parts (words.fronts text lost is 0) in
+    subst (λ ts. AreFirst (words_of ts) (flat (head_pairs grid.rows grid.cols grid.head) ++ map (printed_cell kind) grid.cells)) g.parts.parts (words.fronts text lost is 0) in
     let some : 0 < length g.cell_tokens = omega (arith, image_length kind g.nodata g.cell_tokens cut.cells g.cells, g.count, some_cells cut.rows cut.cols g.head.within.some_rows g.head.within.some_cols) in
     let h = grid.head in
     elim (whole_or_ends (head_pairs grid.rows grid.cols h) (map (printed_cell kind) grid.cells) g.pairs g.cell_tokens (all_keys grid.rows grid.cols h.x_center h.y_center h.x h.y h.size) some g.ended front) as (λ _. (cut.rows ≡ grid.rows) × (cut.cols ≡ grid.cols) × (cut.head ≡ grid.head) × AgreeButTheLast cut.cells grid.cells) [

@@ -103,7 +103,7 @@ front_word word [] words at t g = tt
 front_word word (b ∷ bs) words at t g =
     let bytes : list_all is_token_byte (b ∷ bs) ≡ true = (list_all_append is_token_byte (b ∷ bs) g.more (ap (list_all is_token_byte) g.is ∙ t.bytes)) in
     let one : map (λ (w : Token). w.bytes) (tokens_at at (b ∷ bs)) ≡ (b ∷ bs) ∷ [] =
-        ap (λ xs. map (λ (w : Token). w.bytes) (tokens_at at xs)) (sym (append-nil (b ∷ bs))) ∙ ap (map (λ (w : Token). w.bytes)) (tokens_at-run at b bs [] bytes refl) in
+    ap (λ xs. map (λ (w : Token). w.bytes) (tokens_at at xs)) (sym (append-nil (b ∷ bs))) ∙ ap (map (λ (w : Token). w.bytes)) (tokens_at-run at b bs [] bytes refl) in
     subst (λ ws. AreFirst ws (word ∷ words)) (sym one) (g, omega arith)
 
 -- a word and a blank in front
@@ -111,8 +111,8 @@ word_front : (word rest : List ℕ) (blank : ℕ) (words : List (List ℕ)) → 
 word_front [] rest blank words t b h = absurd (omega (arith, t.some))
 word_front (c ∷ cs) rest blank words t b h =
     let found = λ (rest : List ℕ) (at : ℕ).
-        ap (map (λ (w : Token). w.bytes)) (tokens_at-run at c cs (blank ∷ rest) t.bytes b)
-        ∙ ap (λ ws. (c ∷ cs) ∷ map (λ (w : Token). w.bytes) ws) (tokens_at-blank (at + suc (length cs)) blank rest b) in
+    ap (map (λ (w : Token). w.bytes)) (tokens_at-run at c cs (blank ∷ rest) t.bytes b)
+    ∙ ap (λ ws. (c ∷ cs) ∷ map (λ (w : Token). w.bytes) ws) (tokens_at-blank (at + suc (length cs)) blank rest b) in
     record {
       found = λ at. found rest at ∙ ap (λ ws. (c ∷ cs) ∷ ws) (h.found (at + suc (length cs) + 1));
       fronts = λ front more e at. elim (front_ends (c ∷ cs) rest front more blank e) as (λ _. AreFirst (map (λ (w : Token). w.bytes) (tokens_at at front)) ((c ∷ cs) ∷ words)) [

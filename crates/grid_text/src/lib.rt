@@ -18,4 +18,6 @@ mod writer;
 pub use fault::{GridFault, GridKind, ReadGrid};
 pub use grid::{Grid, Head};
 pub use reader::{first_faults_are_told, grids_are_read, read_grid};
-pub use writer::{cut_grids_lose_the_last_cell_alone, grids_can_be_written, write_grid, written_grids_read_back};
+pub use writer::{
+    cut_grids_lose_the_last_cell_alone, grids_can_be_written, write_grid, written_grids_read_back,
+};

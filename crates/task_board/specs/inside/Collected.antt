@@ -46,7 +46,7 @@ first_maps program s known zero = []
 first_maps program s known (suc n) =
     first_maps program s known n
     ++ kept_maps (span_begin s + n) (section_maps s (onward_done program s known (span_begin s + n))) (first_operation s)
-        (span_operations program s)
+    (span_operations program s)
 
 -- the maps with that of an operation behind them, where it is kept
 abbrev pub with_kept_map : ℕ → ℕ → Operation → WholeMap → List StepMap → List StepMap
@@ -76,4 +76,4 @@ abbrev pub HaveTiles : Tiling → List (Option (Arc Tile Global)) → ℕ → �
 HaveTiles g tiles start number maps operations =
     (k : ℕ) (o : Operation) → slice_get operations k ≡ Some o → o.kept ≡ true →
     AreTilesOfMap g tiles (start + tasks_of (tile_count g) (take k operations) + before_value (tile_count g) (op_class o.op))
-        (nth maps (number + k))
+    (nth maps (number + k))
