@@ -1,1 +1,2 @@
+pub mod FlowTiles
 pub mod TaskTiles

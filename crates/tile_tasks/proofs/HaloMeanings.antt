@@ -97,7 +97,7 @@ window_is program known g step tile done o w cells inner around part rows cols i
 -- ---- one step up or down stream
 
 -- a drain map is that of the operand
-drain_is : (program : Program) (known : Known) (step : ℕ) (done : Done) (o : Operation) (m : DrainMap) → m.rows ≡ known.rows → m.cols ≡ known.cols → m.codes ≡ nth done.drains o.drain → length m.codes ≡ known.rows * known.cols →
+pub drain_is : (program : Program) (known : Known) (step : ℕ) (done : Done) (o : Operation) (m : DrainMap) → m.rows ≡ known.rows → m.cols ≡ known.cols → m.codes ≡ nth done.drains o.drain → length m.codes ≡ known.rows * known.cols →
     m ≡ drain_by (setting_at (scene_of program.inputs known step) o.file o.window (kinds_of program o)) (operand_cell (scene_of program.inputs known step) done (Drain o.drain))
 drain_is program known step done o m high wide codes size =
     let of = λ (r c : ℕ) (x : WholeMap). let d : DrainMap = record { rows = r; cols = c; codes = x } in d in

@@ -104,7 +104,7 @@ value_part program known g step done o class.Area n t is = is
 value_part program known g step done o class.Flow n t is = is
 
 -- what stands at a number of a list is one
-one_there : (os : List Operation) (k n : ℕ) (o p : Operation) → k ≡ n → slice_get os k ≡ Some o → slice_get os n ≡ Some p → o ≡ p
+pub one_there : (os : List Operation) (k n : ℕ) (o p : Operation) → k ≡ n → slice_get os k ≡ Some o → slice_get os n ≡ Some p → o ≡ p
 one_there os k n o p same a b = let two : Some o ≡ Some p = sym a ∙ (ap (slice_get os) same ∙ b) in cc
 
 -- ---- what makes an operand

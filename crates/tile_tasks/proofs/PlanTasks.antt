@@ -59,11 +59,11 @@ own_entries y start l class.Area =
     (tile_entries y start l class.Area Partial 0 (tile_count y.tiling) tt (omega arith))
     (record { work = Merge; tile = 0; suits = tt; below = some_tiles y.tiling; is = refl }, tile_entries y start l class.Area Spread 0 (tile_count y.tiling) tt (omega arith))
 
-get_at : (before : List Laid) (l : Laid) (more : List Laid) → slice_get (before ++ l ∷ more) (length before) ≡ Some l
+pub get_at : (before : List Laid) (l : Laid) (more : List Laid) → slice_get (before ++ l ∷ more) (length before) ≡ Some l
 get_at [] l more = refl
 get_at (x ∷ before) l more = get_at before l more
 
-take_at : (before more : List Laid) → take (length before) (before ++ more) ≡ before
+pub take_at : (before more : List Laid) → take (length before) (before ++ more) ≡ before
 take_at [] more = empty more
   where
     empty : (xs : List Laid) → take 0 xs ≡ []
@@ -148,7 +148,7 @@ entries_append y start (x ∷ xs) ys =
     ∙ ap (λ (n : ℕ). (own ++ entries_from y next xs) ++ entries_from y n ys) sum)
 
 -- the tasks of an operation stand in the plan from the number on that its tasks begin at
-own_stands : (program : Program) (s : Span) (g : Tiling) (place : ℕ) (l : Laid) (k : ℕ) → slice_get (laid_in program s) place ≡ Some l →
+pub own_stands : (program : Program) (s : Span) (g : Tiling) (place : ℕ) (l : Laid) (k : ℕ) → slice_get (laid_in program s) place ≡ Some l →
     let y = layout_of program s g in
     let start = tasks_in (tile_count g) (take place (laid_in program s)) in
     let own = tasks_of_entries (entries_for y start l (op_class l.operation.op)) in

@@ -15,6 +15,7 @@ use Rattle.map_meaning.specs.Evaluation.{Done}
 use Rattle.map_meaning.specs.Programs.{IsOperation, IsStepOperation, IsWellFormed}
 use Rattle.map_meaning.specs.Rules.{reach_of}
 use Rattle.map_meaning.specs.Spans.{scene_of}
+use Rattle.map_meaning.specs.Table.{goes_along_drains}
 use Rattle.map_meaning.specs.declared.known.Known.{Known}
 use Rattle.map_meaning.specs.declared.known.Span.{Span}
 use Rattle.map_meaning.specs.declared.known.Span.TheVariants as span
@@ -27,6 +28,7 @@ use Rattle.plan_graph.specs.Graphs.{is_flow_work}
 use Rattle.span_operands.specs.Made.{AgreesWith, is_made, span_start}
 use Rattle.span_operands.specs.declared.scope.Scope.{Scope}
 use Rattle.span_operands.specs.declared.scope.Scope.TheVariants as scope
+use Rattle.span_operands.specs.inside.Held.{HasDrainMap}
 use Rattle.span_operands.specs.inside.Scopes.{IsScopeOf}
 use Rattle.task_laws.specs.Laws.{AreCutsOfMaps}
 use Rattle.task_laws.specs.Zones.{tile_zones, zones_in}
@@ -45,7 +47,8 @@ use Rattle.task_tiles.specs.TaskTiles.{IsPartialTile, IsPlanned, IsTaskTile, cla
 use Rattle.task_tiles.proofs.Callers.{IsStepOf}
 use Rattle.task_tiles.proofs.OnwardLemmas.{IsReadBefore}
 use Rattle.tile_tasks.specs.inside.Areas.{ArePartials, IsZone, ReadsTotal, ReadsZones, class_operand, value_operand, zone_op}
-use Rattle.tile_tasks.specs.inside.Tasks.{AreHandedIn, ReadsAround, ReadsEach, many_for}
+use Rattle.tile_tasks.specs.inside.Flows.{ReadsFlow}
+use Rattle.tile_tasks.specs.inside.Tasks.{AreHandedIn, IsTaskAt, ReadsAround, ReadsEach, many_for}
 use Rattle.tile_tasks.specs.inside.Tiles.{tile_handed}
 use Rattle.tile_tasks.specs.inside.Runs.{CanRun, ReadsFor, SuitsScope, halo_numbers}
 use Rattle.tile_tasks.proofs.DoneKnown.{agrees}
@@ -210,25 +213,43 @@ module _ (law : AreCutsOfMaps) (plan : PlanValue) (s : Span) (program : Program)
         of_classes = classes_read sc merge needs ts zone scope_is are told;
       }
 
+  -- the operation is one of the program's, at a step of the span
+  pub task_is : IsTaskAt program s known g l.step tile o
+  task_is = record {
+    rows = planned.rows;
+    cols = planned.cols;
+    in_tiling = below;
+    order = starts s l.step in_span.at_step;
+    one = is.one;
+    a = is.a;
+    b = is.b;
+    c = is.c;
+    d = is.d;
+  }
+
   -- what a task of the operation is asked
   pub run_is : (w : Work) (sc : Scope) → SuitsClass (op_class o.op) w → is_flow_work w ≡ false → IsScopeOf sc o.op → CanRun program s known g l.step tile o w sc
   run_is w sc suits plain scope_is = record {
-    task = record {
-      rows = planned.rows;
-      cols = planned.cols;
-      in_tiling = below;
-      order = starts s l.step in_span.at_step;
-      one = is.one;
-      a = is.a;
-      b = is.b;
-      c = is.c;
-      d = is.d;
-    };
+    task = task_is;
     scope_is = scope_is;
     suits = suits_by sc w (subst (λ (c : Class). SuitsClass c w) (scope_class sc o.op scope_is) suits) plain;
     window = is.sound.window;
     drain = λ along. drain_known program s known l.step o.drain (is.drain along);
   }
+
+  -- what a task of a transport reads
+  pub flow_reads : (needs : List ℕ) (ts : List Tile) → needs ≡ reads_of y l (tile ∷ []) → AreTold Tells needs ts → ReadsFlow program s known g l.step tile o ts done
+  flow_reads needs ts are told =
+      let scene = scene_of program.inputs known l.step in
+      record {
+        each = each_read (tile ∷ []) needs ts own are told;
+        a = operand_scalars program scene done o.a is.sound.a;
+        b = operand_scalars program scene done o.b is.sound.b;
+      }
+
+  -- the drain map of one that goes along drains
+  pub flow_drain : goes_along_drains o.op ≡ true → HasDrainMap known o.drain
+  flow_drain along = drain_known program s known l.step o.drain (is.drain along)
 
   -- what it reads
   pub reads_are : (w : Work) (sc : Scope) (place : ℕ) (needs : List ℕ) (ts : List Tile) → slice_get (laid_in program s) place ≡ Some l → IsScopeOf sc o.op → SuitsScope w sc →

@@ -23,6 +23,7 @@ use Rattle.task_tiles.specs.declared.tile.Tile.{Tile}
 use Rattle.task_tiles.specs.declared.tile.Tile.TheVariants.{Part, Partial}
 use Rattle.task_tiles.specs.TaskTiles.{IsPartialTile}
 use Rattle.tile_tasks.specs.inside.Areas.{IsZone}
+use Rattle.tile_tasks.specs.inside.Flows.{IsTransport}
 use Rattle.tile_tasks.specs.inside.Tiles.{IsPartialFor}
 use Rattle.tile_tasks.specs.inside.Runs.{SuitsScope}
 use Rattle.tile_tasks.proofs.PlanTasks.{SuitsClass}
@@ -85,6 +86,12 @@ suits_by (scope.Global a) work.Merge suits plain = tt
 suits_by (scope.Global a) work.Spread suits plain = tt
 suits_by (scope.Transport f) work.Flow suits plain = absurd (cc)
 suits_by s w suits plain = absurd suits
+
+-- only transports are of theirs
+pub flow_scope : (sc : Scope) → class_for sc ≡ class.Flow → IsTransport sc
+unfolding class_for
+flow_scope (scope.Transport f) is = tt
+flow_scope sc is = absurd (cc)
 
 -- operations over areas are of their class
 pub area_class : (s : Scope) (o : Op) → IsZone s → IsScopeOf s o → op_class o ≡ class.Area

@@ -2,11 +2,15 @@
 #![tactic(auto)]
 
 mod areas;
+mod flow;
 mod halo;
 mod handed;
+mod laws;
 mod local;
 mod own;
 mod run;
 mod zones;
 
+pub use flow::begin_flow;
+pub use laws::settled_works_give_their_tiles;
 pub use run::run_task;

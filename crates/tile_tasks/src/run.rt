@@ -27,8 +27,8 @@ use task_laws::tiles_of_operations_are_cuts;
 use task_tiles::Tile;
 use tile_map::Tiling;
 
-// The operations of the section that a span is of.
-fn section<'a>(program: &'a Program, span: Span) -> &'a [Operation]
+/// The operations of the section that a span is of.
+pub(crate) fn section<'a>(program: &'a Program, span: Span) -> &'a [Operation]
     ensures { result.now ≡ span_section program.now span }
 {
     match span {
