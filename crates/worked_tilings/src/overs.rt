@@ -5,7 +5,7 @@ use crate::runs::{Case, expect_cases};
 use std::test::Fail;
 
 /// Scripts whose results leave their range.
-static OVERS: [Case; 8] = [
+static OVERS: [Case; 10] = [
     // in two tiles: the place of the first row comes first, though its tile comes later
     (
         "initial report P = A + 1; Q = A * O; report R = Q + 1;",
@@ -19,6 +19,12 @@ static OVERS: [Case; 8] = [
     ("initial W = windowtotal(O, 3);", Over([0, 1, 1, 1, 1])),
     ("initial W = areatotal(T, A > 15);", Over([0, 1, 2, 4, 1])),
     ("initial W = maptotal(O);", Over([0, 1, 1, 1, 1])),
+    // over drains: the first place by rows, and an operation before a transport
+    ("initial F = accuflux(L, O);", Over([0, 1, 1, 2, 1])),
+    (
+        "initial P = A * T; F = accuflux(L, O);",
+        Over([0, 1, 1, 4, 5]),
+    ),
     // in a later stage
     (
         "initial report P = A + 1; K = lddmask(L, 1); report Q = upstream(K, A); report R = A * O;",
