@@ -1,5 +1,5 @@
 //! The calls of `crates/timed_calls` in stock Rust: the same loops over the same 16-byte cells, the best of as many rounds.
-//! It prints the lines that `timed_calls` prints for `cells`, `maps`, `tiles`, `table`, `turns`, `drains`, `windows` and `areas`.
+//! It prints the lines that `timed_calls` prints for `cells`, `maps`, `tiles`, `table`, `turns`, `drains`, `windows`, `areas`, `sums` and `merges`.
 
 use std::cmp::Reverse;
 use std::collections::{BTreeMap, HashMap};
@@ -519,6 +519,55 @@ fn time_areas() {
     }
 }
 
+/// The sums and counts of the classes of some cells.
+fn share(a: &[Cell], classes: &[Cell]) -> BTreeMap<i64, (i128, u32)> {
+    let mut sums = BTreeMap::new();
+    for pair in a.iter().zip(classes) {
+        if let (Val(v), Val(class)) = pair { sum_and_count(sums.entry(*class).or_insert((0, 0)), *v) }
+    }
+    sums
+}
+fn merge(total: &mut BTreeMap<i64, (i128, u32)>, share: &BTreeMap<i64, (i128, u32)>) {
+    for (class, (sum, count)) in share {
+        let of = total.entry(*class).or_insert((0, 0));
+        of.0 += sum;
+        of.1 += count;
+    }
+}
+fn time_sums() {
+    let a = drawn(4096, 1442695040888963407, 33);
+    let b = drawn(4096, 987654321, 33);
+    let (best, sum) = best_of(200, || {
+        let mut sum = add(black_box(&a), black_box(&b)).0;
+        for _ in 0..99 { sum = add(&sum, black_box(&b)).0 }
+        sum.len()
+    });
+    println!("sums {best} {sum}");
+}
+fn time_merges() {
+    let cells = drawn(SIDE * SIDE, 1442695040888963407, 33);
+    let apart: Vec<Cell> = (0..SIDE * SIDE).map(|place| Val(place as i64 / 64)).collect();
+    let mixed = drawn(SIDE * SIDE, 987654321, 48);
+    for (name, classes) in [("merge_apart", apart), ("merge_drawn", mixed)] {
+        let mut best = u128::MAX;
+        let mut gave = 0;
+        for _ in 0..3 {
+            let mut took = 0;
+            let mut total = BTreeMap::new();
+            for tile in 0..1024 {
+                let part = tile * 4096..tile * 4096 + 4096;
+                let share = share(&cells[part.clone()], &classes[part]);
+                let start = Instant::now();
+                merge(black_box(&mut total), black_box(&share));
+                took += start.elapsed().as_nanos();
+            }
+            best = best.min(took);
+            gave += spread(&classes[..4096], |class| total.get(&class).map(|of| of.0)).0.len();
+        }
+        println!("{name} {best} {gave}");
+    }
+}
+
 fn main() {
     match env::args().nth(1).as_deref() {
         Some("cells") => time_cells(100_000, 200),
@@ -529,6 +578,8 @@ fn main() {
         Some("drains") => time_drains(),
         Some("windows") => time_windows(),
         Some("areas") => time_areas(),
-        _ => println!("tiles | cells | maps | table | turns | drains | windows | areas"),
+        Some("sums") => time_sums(),
+        Some("merges") => time_merges(),
+        _ => println!("tiles | cells | maps | table | turns | drains | windows | areas | sums | merges"),
     }
 }

@@ -25,6 +25,11 @@ impl Best {
         Ok(())
     }
 
+    /// Notes a round that took so many nanoseconds.
+    pub fn note_time(&mut self, nanoseconds: u128) {
+        self.nanoseconds = self.nanoseconds.min(nanoseconds);
+    }
+
     /// The shortest, in nanoseconds.
     pub fn nanoseconds(&self) -> u128 {
         self.nanoseconds

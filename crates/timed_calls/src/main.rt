@@ -1,4 +1,4 @@
-//! Times single calls, for `make bench`: `tiles`, `cells`, `maps`, `table`, `turns`, `drains`, `windows` or `areas`. Without a word it says these.
+//! Times single calls, for `make bench`: `tiles`, `cells`, `maps`, `table`, `turns`, `drains`, `windows`, `areas`, `sums` or `merges`. Without a word it says these.
 #![tactic(auto)]
 
 mod areas;
@@ -6,6 +6,7 @@ mod best;
 mod cells;
 mod drains;
 mod table;
+mod tasks;
 mod tiles;
 mod turns;
 mod windows;
@@ -18,6 +19,7 @@ use std::rt::{Clock, Env};
 use std::sync::Wait;
 use std::test::Fail;
 use table::time_table;
+use tasks::{time_merges, time_sums};
 use tiles::time_tiles;
 use turns::time_turns;
 use windows::time_windows;
@@ -33,13 +35,17 @@ fn time<R: Clock + Print + AllocGlobal + Wait>(rt: &R, word: &[u8]) -> Result<()
         b"drains" => time_drains(rt),
         b"windows" => time_windows(rt),
         b"areas" => time_areas(rt),
+        b"sums" => time_sums(rt),
+        b"merges" => time_merges(rt),
         _ => say_words(rt),
     }
 }
 
 // Says the words.
 fn say_words<R: Print>(rt: &R) -> Result<(), Fail> {
-    println!(rt; "tiles | cells | maps | table | turns | drains | windows | areas")?;
+    println!(rt;
+        "tiles | cells | maps | table | turns | drains | windows | areas | sums | merges"
+    )?;
     Ok(())
 }
 
