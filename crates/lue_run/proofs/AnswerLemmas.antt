@@ -12,8 +12,8 @@ use Rattle.lue_run.specs.declared.ended.Ended.TheVariants as top
 use Rattle.lue_run.specs.Ends.{CourseEnd, Usage, OfScript, OfModel, end_answer, answer_for}
 use Rattle.lue_run.specs.Lines.{line_of, status_of}
 use Rattle.lue_run.specs.Words.{Command}
-use Rattle.lue_run.specs.Course.{course}
-use Rattle.lue_run.specs.Answers.{Call, CameOut, HasLine, IsComplete, IsUsage, IsShown, IsVerdict, IsVerdictKind, IsVerdictOver, LineIsWritten, KeepsCounts, NoFault, WroteWhole}
+use Rattle.lue_run.specs.Course.{IsCountBy, course}
+use Rattle.lue_run.specs.Answers.{Call, CameOut, HasLine, IfTooManyTold, IsComplete, IsUsage, IsShown, IsVerdict, IsVerdictKind, IsVerdictOver, LineIsWritten, KeepsCounts, NoFault, WroteWhole}
 use Rattle.lue_run.specs.inside.Top.{AnswersSo, Tells}
 
 -- a count that was raised rose
@@ -60,6 +60,28 @@ module _ (call : Call) where
   written_of : (end : Ended) → WroteWhole call.sink_before call.sink_after (line_of end) → LineIsWritten call end
   written_of (top.OutFault instead) w = tt
   written_of end w = w
+
+-- where only the status of an answer is told, its number of tasks is one of which it is so
+of_status : (P : ℕ → Type 0) (end : Ended) → IfTooManyTold end P → HasLine end → status_of end ≡ status_of (top.TooManyTasks 0) → (count : ℕ) × P count
+of_status P (top.TooManyTasks count) so has same = (count, so)
+of_status P (top.Done files steps) so has same = absurd (omega (arith, same))
+of_status P (top.Made files) so has same = absurd (omega (arith, same))
+of_status P top.Usage so has same = absurd (omega (arith, same))
+of_status P (top.Missing name) so has same = absurd (omega (arith, same))
+of_status P (top.TooLong name) so has same = absurd (omega (arith, same))
+of_status P (top.Script fault) so has same = absurd (omega (arith, same))
+of_status P (top.Input name kind) so has same = absurd (omega (arith, same))
+of_status P (top.Overflow at) so has same = absurd (omega (arith, same))
+of_status P (top.FolderReadFault name) so has same = absurd (omega (arith, same))
+of_status P (top.FolderWriteFault name) so has same = absurd (omega (arith, same))
+of_status P (top.OutFault instead) so has same = absurd has
+of_status P top.Memory so has same = absurd has
+
+-- what is so of the number of each answer before its line is so of that of the answer
+told_so : (P : ℕ → Type 0) (end answer : Ended) (old new : SinkState) → IfTooManyTold end P → Tells end old new answer → IfTooManyTold answer P
+told_so P end answer old new so (inl t) = subst (λ (x : Ended). IfTooManyTold x P) (sym t.0) so
+told_so P end answer old new so (inr t) =
+    subst (λ (x : Ended). IfTooManyTold x P) (sym t.1) (λ same. of_status P end so t.2.has_line (sym t.2.status ∙ same))
 
 -- ---- by what was told of it
 
@@ -116,6 +138,9 @@ module _ (call : Call) (answer : Ended) (a : AnswersSo call.command call.before 
 
   pub counts_told : KeepsCounts call
   counts_told = record { folder = a.comes.came.later; sink = a.later }
+
+  pub tasks_told : IfTooManyTold answer (IsCountBy call.command)
+  tasks_told = told_so (IsCountBy call.command) a.end answer call.sink_before call.sink_after a.comes.tasks a.tells
 
 -- what is answered to a command that is asked for, is answered to the one that the words give
 pub as_asked : (asked command : Option Command) (old new : FolderState) (out_old out_new : SinkState) (answer : Ended) → asked ≡ command →

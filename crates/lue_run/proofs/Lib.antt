@@ -1,3 +1,4 @@
 pub mod AnswerLemmas
 pub mod MakeLemmas
 mod PieceLemmas
+pub mod TaskLemmas

@@ -6,7 +6,8 @@ use Rattle.outside_io.specs.Causes.{ReadFault, WriteFault, NoMemory, RunOutcome,
 use Rattle.outside_io.specs.Events.{files_after}
 use Rattle.outside_io.specs.Met.{PutsGrew, HasFaults, Meets}
 use Rattle.lue_run.specs.declared.ended.Ended.{Ended}
-use Rattle.lue_run.specs.declared.ended.Ended.TheVariants.{Usage, Missing, TooLong, FolderReadFault, FolderWriteFault, OutFault, Memory}
+use Rattle.lue_run.specs.declared.ended.Ended.TheVariants.{Usage, Missing, TooLong, TooManyTasks}
+use Rattle.lue_run.specs.declared.ended.Ended.TheVariants.{FolderReadFault, FolderWriteFault, OutFault, Memory}
 use Rattle.lue_run.specs.Words.{Command}
 use Rattle.lue_run.specs.Ends.{CourseEnd, why_of, answer_for}
 use Rattle.lue_run.specs.Lines.{line_of, status_of}
@@ -88,6 +89,13 @@ IsShown call (FolderWriteFault name) = CameOut call (CutOff (WriteFault name))
 IsShown call (OutFault instead) = CouldNotWrite call instead
 IsShown call Memory = CameOut call (CutOff NoMemory)
 IsShown call other = HasCounted call.after call.before.absents call.before.overlongs
+
+-- It is so of the number of too many tasks where these are told; and of some number where only their status is, since their line
+-- could not be written.
+abbrev pub IfTooManyTold : Ended → (ℕ → Type 0) → Type 0
+IfTooManyTold (TooManyTasks count) P = P count
+IfTooManyTold (OutFault instead) P = instead ≡ status_of (TooManyTasks 0) → (count : ℕ) × P count
+IfTooManyTold other P = ⊤
 
 -- words that are no command touch nothing, and that is said
 pub record IsUsage (call : Call) (answer : Ended) : Type 0 where

@@ -5,6 +5,7 @@
 //! contract says which files are put, in which order, with which end, and why each answer comes.
 #![tactic(auto)]
 
+mod asked;
 mod command;
 mod ended;
 mod exit_status;
@@ -14,8 +15,9 @@ mod make;
 mod pieces;
 mod plain;
 mod script_line;
+mod tiles;
 mod top;
 
 pub use ended::Ended;
 pub use exit_status::status;
-pub use top::lue_plain;
+pub use top::{lue_main, lue_plain};

@@ -1,21 +1,24 @@
 ghost use Rattle.std.specs.Prelude.{◌≡◌, ◌≤◌, None, Some};
 ghost use Rattle.std.specs.Option.{option_map};
 ghost use Rattle.outside_io.specs.Causes.{outcome_as};
-ghost use Rattle.lue_run.specs.Answers.{HasLine, IsComplete, IsUsage, IsShown, IsVerdict, IsVerdictKind, LineIsWritten, KeepsCounts, NoFault, call_of};
+ghost use Rattle.lue_run.specs.Answers.{HasLine, IsComplete, IsUsage, IsShown, IsVerdict, IsVerdictKind, IfTooManyTold, LineIsWritten, KeepsCounts, NoFault, call_of};
 ghost use Rattle.run_session.specs.Ends.{session_outcome};
 ghost use Rattle.lue_run.specs.Ends.{OfScript, answer_for};
-ghost use Rattle.lue_run.specs.Words.{plain_command};
+ghost use Rattle.lue_run.specs.Course.{IsCountBy};
+ghost use Rattle.lue_run.specs.Words.{main_command, plain_command};
 ghost use Rattle.lue_run.specs.inside.Asked.{command_asked};
 ghost use Rattle.lue_run.specs.inside.Top.{AnswersSo, ComesTo, Tells};
 
-use crate::command::{Asked, plain_asked};
+use crate::asked::Asked;
+use crate::command::{main_asked, plain_asked};
 use crate::ended::Ended;
 use crate::exit_status::status;
 use crate::line::put_line;
 use crate::make::run_make;
 use crate::plain::run_plain;
+use crate::tiles::run_tiles;
 use cell_values::Word;
-use outside_io::{Folder, Sink};
+use outside_io::{Folder, Gate, Sink};
 use run_session::SessionEnd;
 use std::alloc::Global;
 
@@ -45,6 +48,7 @@ fn fulfil<F: Folder>(alloc: Global, wanted: Asked<'_>, folder: &mut F) -> Ended
     match wanted {
         Asked::Plain(name) => ended(run_plain(alloc, name, folder)),
         Asked::Make(number) => run_make(alloc, number, folder),
+        Asked::ByTiles(name, tiles) => ended(run_tiles(alloc, name, tiles, folder)),
     }
 }
 
@@ -112,8 +116,44 @@ pub fn lue_plain<F: Folder, S: Sink>(
     // Words that are no command.
     ensures refused { plain_command words.now ≡ None
         → IsUsage (call_of (plain_command words.now) (F.state folder.old) (F.state folder.new) (S.state out.old) (S.state out.new)) result }
+    // Too many tasks are never told, not even as the end whose line could not be written.
+    ensures few { IfTooManyTold result (λ count. ⊥) }
     // Counts never fall.
     ensures counts { KeepsCounts (call_of (plain_command words.now) (F.state folder.old) (F.state folder.new) (S.state out.old) (S.state out.new)) }
 {
     answer(alloc, plain_asked(words), folder, out)
+}
+
+/// Does what the words ask for, and writes one line to the sink: `run SCRIPT TILEROWS TILECOLS WORKERS` runs a script by tiles of
+/// so many rows and columns, in cells.
+///
+/// Files, their order and the end are those that `plain` has, for every size of the tiles and every number of workers, but for a
+/// script with too many tasks: once its inputs are read, it ends with their number. The tasks are done one after the other,
+/// whatever the number of workers, and no task passes the gate.
+pub fn lue_main<F: Folder, S: Sink, G: Gate>(
+    alloc: Global,
+    words: &[Word],
+    folder: &mut F,
+    out: &mut S,
+    _gate: &G,
+) -> Ended
+    // An answer that is no fault of the outside and not want of memory is the verdict, with all outputs put.
+    ensures verdict { IsVerdictKind result
+        → IsVerdict (call_of (main_command words.now) (F.state folder.old) (F.state folder.new) (S.state out.old) (S.state out.new)) result }
+    // Why each answer comes, and what was put before a fault.
+    ensures shown { IsShown (call_of (main_command words.now) (F.state folder.old) (F.state folder.new) (S.state out.old) (S.state out.new)) result }
+    // The line that is written.
+    ensures line { LineIsWritten (call_of (main_command words.now) (F.state folder.old) (F.state folder.new) (S.state out.old) (S.state out.new)) result }
+    // Where no fault of the outside came, the answer is the verdict with its line written, or want of memory.
+    ensures complete { NoFault (call_of (main_command words.now) (F.state folder.old) (F.state folder.new) (S.state out.old) (S.state out.new))
+        → IsComplete (call_of (main_command words.now) (F.state folder.old) (F.state folder.new) (S.state out.old) (S.state out.new)) result }
+    // Words that are no command.
+    ensures refused { main_command words.now ≡ None
+        → IsUsage (call_of (main_command words.now) (F.state folder.old) (F.state folder.new) (S.state out.old) (S.state out.new)) result }
+    // Too many tasks are told by a number that a script has by these tiles, also where the folder tells nothing.
+    ensures many { IfTooManyTold result (IsCountBy (main_command words.now)) }
+    // Counts never fall.
+    ensures counts { KeepsCounts (call_of (main_command words.now) (F.state folder.old) (F.state folder.new) (S.state out.old) (S.state out.new)) }
+{
+    answer(alloc, main_asked(words), folder, out)
 }

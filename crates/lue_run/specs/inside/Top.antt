@@ -8,9 +8,9 @@ use Rattle.lue_run.specs.declared.ended.Ended.{Ended}
 use Rattle.lue_run.specs.declared.ended.Ended.TheVariants.{Usage, OutFault}
 use Rattle.lue_run.specs.Ends.{CourseEnd, why_of, answer_for}
 use Rattle.lue_run.specs.Lines.{line_of, status_of}
-use Rattle.lue_run.specs.Course.{course}
+use Rattle.lue_run.specs.Course.{IsCountBy, course}
 use Rattle.lue_run.specs.Words.{Command}
-use Rattle.lue_run.specs.Answers.{HasLine, WroteWhole}
+use Rattle.lue_run.specs.Answers.{HasLine, IfTooManyTold, WroteWhole}
 
 -- what the command came to before its line
 pub record ComesTo (command : Option Command) (old new : FolderState) (end : Ended) : Type 0 where
@@ -20,6 +20,7 @@ pub record ComesTo (command : Option Command) (old new : FolderState) (end : End
   pub untouched : command ≡ None → new ≡ old
   pub refused : command ≡ None → end ≡ Usage
   pub usage : end ≡ Usage → command ≡ None
+  pub tasks : IfTooManyTold end (IsCountBy command)
 
 -- the line of an end could not be written whole
 pub record Unwritten (end : Ended) (old new : SinkState) (instead : ℕ) : Type 0 where

@@ -20,7 +20,7 @@ use Rattle.lue_run.proofs.make.run_make.Goals as goal
 pub returns-in_default : goal.returns-in_default
 returns-in_default g c =
     let s = g.F.Folder.state c.args.folder.now in
-    record { outcome = CutOff NoMemory; is = refl; came = meets_no_memory why_of (make_run c.args.number) s s (read_keeps_all s) refl; made = λ is. cc is }
+    record { outcome = CutOff NoMemory; is = refl; came = meets_no_memory why_of (make_run c.args.number) s s (read_keeps_all s) refl; made = λ is. cc is; tasks = tt }
 
 pub returns-in-Ok-put_all : goal.returns-in-Ok-put_all
 returns-in-Ok-put_all g c =
@@ -31,6 +31,7 @@ returns-in-Ok-put_all g c =
       is = ap top.Made (c.len.ensures ∙ sym c.deref.ensures.len ∙ sym (length-map c.deref.result.now file_made) ∙ ap length are);
       came = puts_meet c.args.number (map file_made c.deref.result.now) (state c.args.folder.now) (state c.put_all.new.folder) _ are c.in-Ok-put_all.ensures;
       made = λ is. cc is;
+      tasks = tt;
     }
 
 pub returns-in-Err-Failed : goal.returns-in-Err-Failed
@@ -45,6 +46,7 @@ returns-in-Err-Failed g c =
       came = puts_meet c.args.number (map file_made c.deref.result.now) old new (CutOff (WriteFault c.in-Err-Failed.name)) are
           (subst (λ (why : NotPut). Meets (why_by no_error) (in_turn made_put tt (map file_made c.deref.result.now)) old new (outcome_by not_put_outcome (Err why))) c.in-Err-Failed.field-0-is c.in-Err-Failed.ensures);
       made = λ is. cc is;
+      tasks = tt;
     }
 
 pub returns : goal.returns
@@ -59,4 +61,5 @@ returns g c =
       came = puts_meet c.args.number (map file_made c.deref.result.now) old new (CutOff NoMemory) are
           (subst (λ (why : NotPut). Meets (why_by no_error) (in_turn made_put tt (map file_made c.deref.result.now)) old new (outcome_by not_put_outcome (Err why))) c.in-Err-Memory.field-0-is c.in-Err-Memory.ensures);
       made = λ is. cc is;
+      tasks = tt;
     }

@@ -5,7 +5,7 @@ use Rattle.std.specs.declared.option.Option.{Option}
 use Rattle.outside_io.specs.Causes.{CameTo}
 use Rattle.outside_io.specs.Met.{Meets}
 use Rattle.outside_io.proofs.Callers.{meets_settled}
-use Rattle.lue_run.specs.declared.command.Asked.{Asked}
+use Rattle.lue_run.specs.declared.asked.Asked.{Asked}
 use Rattle.lue_run.specs.Ends.{Usage, why_of}
 use Rattle.lue_run.specs.Course.{course}
 use Rattle.lue_run.specs.inside.Asked.{command_asked}
@@ -28,4 +28,5 @@ returns-in-None g c =
       untouched = λ none. refl;
       refused = λ none. refl;
       usage = λ is. ap (option_map command_asked) c.in-None.is;
+      tasks = tt;
     }
