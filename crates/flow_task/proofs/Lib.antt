@@ -4,6 +4,7 @@ pub mod Begun
 pub mod Counting
 pub mod DueLemmas
 pub mod Ending
+pub mod FedLemmas
 pub mod Keeping
 pub mod Marking
 pub mod Noting

@@ -1,46 +1,40 @@
 -- Cells by their numbers.
-use Rattle.std.proofs.Common.{◌≡◌, ℕ, ◌<◌, List, [], ◌∷◌, length, map, refl, ap, ◌∙◌, sym, arith, suc, zero, Bool, true, false, get_or}
-use Rattle.std.specs.Prelude.{ℤ, pos, if◌then◌else◌}
+use Rattle.std.proofs.Common.{◌≡◌, ℕ, ◌<◌, List, [], ◌∷◌, length, map, refl, ap, ◌∙◌, subst, arith, suc, zero, Bool, true, false, get_or}
+use Rattle.std.specs.Prelude.{ℤ, ◌≤ℤ◌, if◌then◌else◌}
+use Rattle.std.specs.Ordering.{int_eq}
+use Rattle.std.proofs.lemmas.Bool.Decides.{Decides-int_eq}
+use Rattle.std.proofs.lemmas.Int.{ints}
 use Rattle.cell_values.specs.declared.cell.Cell.{Cell}
 use Rattle.cell_values.specs.declared.cell.Cell.TheVariants.{Mv, Val}
+use Rattle.cell_values.specs.declared.kind.Kind.TheVariants.{Scalar}
+use Rattle.cell_values.specs.Kinds.{IsCell, IsValue, least}
 use Rattle.tile_map.specs.Cuts.{cell_at}
-use Rattle.flow_task.specs.inside.Begins.{is_coded}
-use Rattle.flow_task.specs.inside.Packed.{unpacked_cells, packed_number}
+use Rattle.flow_task.specs.inside.Packed.{kept_missing, packed_number, unpacked_cell}
 
-one_cell : (cell : Cell) → (if is_coded cell then Val (packed_number cell) else Mv) ≡ cell
-one_cell Mv = refl
-one_cell (Val n) = refl
+-- a scalar is not the number that is kept of a missing cell
+number_back : (n : ℤ) → IsValue Scalar n → (o : Bool) → int_eq n kept_missing ≡ o → (if o then Mv else Val n) ≡ Val n
+number_back n h false is = refl
+number_back n h true is =
+    let low : least Scalar ≤ℤ kept_missing = subst (λ (z : ℤ). least Scalar ≤ℤ z) ((Decides-int_eq n kept_missing).0 is) h.least in
+    absurd (omega (arith, ints, low))
+
+-- a cell of its number
+cell_back : (cell : Cell) → IsCell Scalar cell → unpacked_cell (packed_number cell) ≡ cell
+cell_back Mv h = ap (λ (o : Bool). if o then Mv else Val kept_missing) ((Decides-int_eq kept_missing kept_missing).1 refl)
+cell_back (Val n) h = number_back n h (int_eq n kept_missing) refl
 
 -- the cells of their numbers
-pub cells_back : (cells : List Cell) → unpacked_cells (map is_coded cells) (map packed_number cells) ≡ cells
-cells_back [] = refl
-cells_back (x ∷ cells) = ap (λ (y : Cell). y ∷ unpacked_cells (map is_coded cells) (map packed_number cells)) (one_cell x) ∙ ap (λ (y : List Cell). x ∷ y) (cells_back cells)
+cells_back : (cells : List Cell) → ((i : ℕ) → IsCell Scalar (cell_at cells i)) → map unpacked_cell (map packed_number cells) ≡ cells
+cells_back [] h = refl
+cells_back (x ∷ cells) h =
+    ap (λ (y : Cell). y ∷ map unpacked_cell (map packed_number cells)) (cell_back x (h zero)) ∙ ap (λ (y : List Cell). x ∷ y) (cells_back cells (λ i. h (suc i)))
 
 -- what was packed is there
-pub packed_all : (cells : List Cell) (known : List Bool) (numbers : List ℤ) → known ≡ map is_coded cells → numbers ≡ map packed_number cells → unpacked_cells known numbers ≡ cells
-packed_all cells known numbers k n = ap (λ (y : List Bool). unpacked_cells y numbers) k ∙ (ap (unpacked_cells (map is_coded cells)) n ∙ cells_back cells)
-
--- as many cells as there are of both
-pub cells_many : (known : List Bool) (numbers : List ℤ) → length known ≡ length numbers → length (unpacked_cells known numbers) ≡ length numbers
-cells_many [] [] e = refl
-cells_many [] (n ∷ numbers) e = absurd (omega (arith, e))
-cells_many (k ∷ known) [] e = absurd (omega (arith, e))
-cells_many (k ∷ known) (n ∷ numbers) e = ap (λ (m : ℕ). suc m) (cells_many known numbers (omega (arith, e)))
+pub packed_all : (cells : List Cell) (numbers : List ℤ) → ((i : ℕ) → IsCell Scalar (cell_at cells i)) → numbers ≡ map packed_number cells → map unpacked_cell numbers ≡ cells
+packed_all cells numbers h is = ap (map unpacked_cell) is ∙ cells_back cells h
 
 -- the cell at a place
-pub unpacked_at : (known : List Bool) (numbers : List ℤ) (i : ℕ) (k d : Bool) (n z : ℤ) → length known ≡ length numbers → i < length numbers → k ≡ get_or known i d → n ≡ get_or numbers i z →
-    (if k then Val n else Mv) ≡ cell_at (unpacked_cells known numbers) i
-unpacked_at known [] i k d n z e low is at = absurd (omega (arith, low))
-unpacked_at [] (m ∷ numbers) i k d n z e low is at = absurd (omega (arith, e))
-unpacked_at (j ∷ known) (m ∷ numbers) zero k d n z e low is at =
-    ap (λ (o : Bool). if o then Val n else Mv) is ∙ ap (λ (y : ℤ). if j then Val y else Mv) at
-unpacked_at (j ∷ known) (m ∷ numbers) (suc i) k d n z e low is at = unpacked_at known numbers i k d n z (omega (arith, e)) (omega (arith, low)) is at
-
--- one that is known, and one that is not
-pub known_at : (known : List Bool) (numbers : List ℤ) (i : ℕ) (k d : Bool) (n z : ℤ) → length known ≡ length numbers → i < length numbers → k ≡ get_or known i d → n ≡ get_or numbers i z → k ≡ true →
-    Val n ≡ cell_at (unpacked_cells known numbers) i
-known_at known numbers i k d n z e low is at on = sym (ap (λ (o : Bool). if o then Val n else Mv) on) ∙ unpacked_at known numbers i k d n z e low is at
-
-pub unknown_at : (known : List Bool) (numbers : List ℤ) (i : ℕ) (k d : Bool) → length known ≡ length numbers → i < length numbers → k ≡ get_or known i d → k ≡ false →
-    Mv ≡ cell_at (unpacked_cells known numbers) i
-unknown_at known numbers i k d e low is off = sym (ap (λ (o : Bool). if o then Val (get_or numbers i (pos 0)) else Mv) off) ∙ unpacked_at known numbers i k d (get_or numbers i (pos 0)) (pos 0) e low is refl
+pub packed_at : (numbers : List ℤ) (i : ℕ) (n z : ℤ) → i < length numbers → n ≡ get_or numbers i z → unpacked_cell n ≡ cell_at (map unpacked_cell numbers) i
+packed_at [] i n z low at = absurd (omega (arith, low))
+packed_at (m ∷ numbers) zero n z low at = ap unpacked_cell at
+packed_at (m ∷ numbers) (suc i) n z low at = packed_at numbers i n z (omega (arith, low)) at

@@ -1,25 +1,31 @@
 -- Places of a tile, their numbers, and lists over its cells.
-use Rattle.std.proofs.Common.{◌≡◌, ℕ, ◌+◌, ◌*◌, ◌<◌, ◌≤◌, List, [], ◌∷◌, ◌++◌, append_assoc, length, map, take, refl, sym, ap, subst, ◌∙◌, arith, suc, inl, inr, Bool, true, false, get_or}
+use Rattle.std.proofs.Common.{◌≡◌, ℕ, ◌+◌, ◌-◌, ◌*◌, ◌/◌, ◌%◌, ◌<◌, ◌≤◌, List, [], ◌∷◌, ◌++◌, append_assoc, length, length-append, map, min, take, refl, sym, ap, subst, ◌∙◌, arith, suc, zero, inl, inr, Bool, true, false, get_or}
 use Rattle.std.specs.Prelude.{◌==◌}
 use Rattle.std.specs.List.{filter, range_with_len}
 use Rattle.std.proofs.Math.Seq.{take-suc}
 use Rattle.std.proofs.lemmas.Bool.{eq-eqb}
 use Rattle.std.proofs.lemmas.Bool.Decides.{eqb_tells}
-use Rattle.std.proofs.lemmas.List.{append-nil, map-append}
+use Rattle.std.proofs.lemmas.List.{append-nil, length-map, map-append}
 use Rattle.std.proofs.lemmas.List.Elements.{filter-append}
-use Rattle.std.proofs.lemmas.List.FromFn.{map-range_with_len_more}
+use Rattle.std.proofs.lemmas.List.FromFn.{length-range_with_len, map-range_with_len_more}
+use Rattle.std.proofs.lemmas.List.Sums.{count_by-le-length, length-filter}
+use Rattle.std.proofs.lemmas.Nat.{mod_below, mul-le}
 use Rattle.tile_map.specs.Rects.{HoldsPlace}
 use Rattle.tile_map.specs.Tiles.{rect_of, tile_at}
 use Rattle.tile_map.specs.declared.tiling.Tiling.{Tiling}
 use Rattle.tile_map.proofs.Callers.{range-append, tile_of_place, tile_only}
+use Rattle.drain_meaning.specs.declared.next.Next.{Next}
+use Rattle.drain_meaning.specs.declared.next.Next.TheVariants as next
 use Rattle.drain_meaning.specs.declared.op.Orient.{Orient}
-use Rattle.drain_meaning.specs.Drains.{DrainMap}
+use Rattle.drain_meaning.specs.declared.op.Orient.TheVariants.{Down, Up}
+use Rattle.drain_meaning.specs.Drains.{DrainMap, next_at}
 use Rattle.drain_meaning.specs.Sound.{IsDrain}
+use Rattle.drain_meaning.specs.Transports.{drains_into, outlet}
 use Rattle.border_channel.specs.Edges.{fed_by}
-use Rattle.border_channel.proofs.Callers.{fed_apart, fed_within}
-use Rattle.flow_task.specs.inside.Begins.{lies_in_tile, over_cells, tile_number, tile_numbers}
-use Rattle.flow_task.proofs.Counting.{distinct_few}
-use Rattle.flow_task.proofs.Receiving.{distinct_from, eqb_same}
+use Rattle.border_channel.specs.inside.Draining.{draining}
+use Rattle.border_channel.proofs.DrainingLemmas.{draining_split, row_more, rows_above, rows_below}
+use Rattle.flow_task.specs.inside.Begins.{fed_in_tile, lies_in_tile, over_cells, tile_number, tile_numbers, tile_place_of}
+use Rattle.flow_task.proofs.Receiving.{eqb_same}
 
 -- ---- places of a tile
 
@@ -90,6 +96,73 @@ pub over_more : {A : Type 0} (f : ℕ → A) (n : ℕ) (x : A) (old new : List A
 over_more {A = A} f n x old new is at e =
     e ∙ (ap (λ (y : List A). y ++ x ∷ []) is ∙ (ap (λ (y : A). over_cells f n ++ y ∷ []) at ∙ sym (map-range_with_len_more f 0 n n (omega arith))))
 
--- a cell feeds no more cells than there are
-pub fed_few : (o : Orient) (m : DrainMap) → IsDrain m → (u : ℕ) → length (fed_by o m u) ≤ length m.codes
-fed_few o m drain u = distinct_few (fed_by o m u) (length m.codes) (distinct_from (fed_by o m u) (fed_apart o m u)) (λ c h. fed_within o m drain u c h)
+-- ---- a cell feeds few others
+
+-- no more pass a test than there are
+filter_few : (p : ℕ → Bool) (xs : List ℕ) → length (filter p xs) ≤ length xs
+filter_few p xs = let same = length-filter p xs in let few = count_by-le-length p xs in omega (arith, same, few)
+
+-- fewer of the first places drain into a cell than of more
+first_few : (m : DrainMap) (u a b : ℕ) → a ≤ b → length (draining m u 0 a) ≤ length (draining m u 0 b)
+first_few m u a b low =
+    let sum : a + (b - a) ≡ b = omega (arith, low) in
+    let split : draining m u 0 b ≡ draining m u 0 a ++ draining m u (0 + a) (b - a) = ap (draining m u 0) (sym sum) ∙ draining_split m u 0 a (b - a) in
+    let many : length (draining m u 0 b) ≡ length (draining m u 0 a) + length (draining m u (0 + a) (b - a)) = ap length split ∙ length-append (draining m u 0 a) (draining m u (0 + a) (b - a)) in
+    omega (arith, many)
+
+-- the rows next to a cell's have three each that drain into it
+rows_few : (m : DrainMap) (u top many : ℕ) → top ≡ u / m.cols - 1 → 0 < m.cols → length (draining m u 0 ((top + many) * m.cols)) ≤ 3 * many
+rows_few m u top zero is some =
+    let same : (top + 0) * m.cols ≡ top * m.cols = omega arith in
+    subst (λ (xs : List ℕ). length xs ≤ 0) (sym (ap (draining m u 0) same ∙ rows_above m u top is some)) (omega arith)
+rows_few m u top (suc many) is some =
+    let line : ℕ = top + many in
+    let left : ℕ = u % m.cols - 1 in
+    let right : ℕ = min m.cols (u % m.cols + 2) in
+    let col = mod_below u m.cols some in
+    let before = draining m u 0 (line * m.cols) in
+    let row = draining m u (line * m.cols + left) ((line * m.cols + right) - (line * m.cols + left)) in
+    let next : top + suc many ≡ line + 1 = omega arith in
+    let both : draining m u 0 ((top + suc many) * m.cols) ≡ before ++ row = ap (λ (k : ℕ). draining m u 0 (k * m.cols)) next ∙ row_more m u line left right refl refl col in
+    let sum : length (draining m u 0 ((top + suc many) * m.cols)) ≡ length before + length row = ap length both ∙ length-append before row in
+    let few = filter_few (λ v. drains_into u (next_at m v)) (range_with_len (line * m.cols + left) ((line * m.cols + right) - (line * m.cols + left))) in
+    let wide = length-range_with_len (line * m.cols + left) ((line * m.cols + right) - (line * m.cols + left)) in
+    let rest = rows_few m u top many is some in
+    omega (arith, sum, few, wide, rest)
+
+-- a cell feeds its neighbours at most
+pub fed_few : (o : Orient) (m : DrainMap) → IsDrain m → (u : ℕ) → length (fed_by o m u) ≤ 9
+unfolding fed_by
+fed_few Down m drain u = outlet_few (next_at m u)
+  where
+    outlet_few : (n : Next) → length (outlet n) ≤ 9
+    outlet_few (next.Cell c) = omega arith
+    outlet_few next.Pit = omega arith
+    outlet_few next.Outside = omega arith
+    outlet_few next.Missing = omega arith
+fed_few Up m drain u = drained_few (m.cols) refl
+  where
+    drained_few : (cols : ℕ) → m.cols ≡ cols → length (draining m u 0 (length m.codes)) ≤ 9
+    drained_few zero e =
+        let none : m.rows * m.cols ≡ 0 = ap (λ (k : ℕ). m.rows * k) e ∙ omega arith in
+        let few = filter_few (λ v. drains_into u (next_at m v)) (range_with_len 0 (length m.codes)) in
+        let wide = length-range_with_len 0 (length m.codes) in
+        omega (arith, few, wide, none, drain.map.size)
+    drained_few (suc k) e =
+        let some : 0 < m.cols = omega (arith, e) in
+        let top : ℕ = u / m.cols - 1 in
+        let bottom : ℕ = min m.rows (u / m.cols + 2) in
+        let all = rows_below m u bottom refl some drain.map.size in
+        let rows = rows_few m u top 3 refl some in
+        let within : bottom * m.cols ≤ (top + 3) * m.cols = mul-le bottom m.cols (top + 3) m.cols (omega arith) (omega arith) in
+        let fewer = first_few m u (bottom * m.cols) ((top + 3) * m.cols) within in
+        subst (λ (xs : List ℕ). length xs ≤ 9) all (omega (arith, fewer, rows))
+
+-- and so the cells of the tile that one feeds
+pub fed_in_few : (o : Orient) (m : DrainMap) (g : Tiling) (tile i : ℕ) → IsDrain m → length (fed_in_tile o m g tile i) ≤ 9
+fed_in_few o m g tile i drain =
+    let cells : List ℕ = fed_by o m (tile_place_of g tile i) in
+    let same = length-map (filter (lies_in_tile g tile) cells) (tile_number g tile) in
+    let few = filter_few (lies_in_tile g tile) cells in
+    let all = fed_few o m drain (tile_place_of g tile i) in
+    omega (arith, same, few, all)

@@ -9,11 +9,11 @@ ghost use Rattle.text_base.specs.Limits.{most_cells};
 ghost use Rattle.tile_map.specs.Rects.{HoldsPlace, IsInMap, cell_count, number_in};
 ghost use Rattle.tile_map.specs.Tiles.{rect_of, tile_count};
 
+use crate::fed::FedCells;
 use crate::link::Link;
 use border_channel::{Edge, Message, push_fed};
 use cell_values::Cell;
 use drain_meaning::{Drain, FlowRule, Orient};
-use number_lists::Lists;
 use std::alloc::{AllocError, Global};
 use tile_cuts::place;
 use tile_map::{Rect, Tiling};
@@ -85,23 +85,16 @@ fn push_numbers(
     Ok(())
 }
 
-// Two lists that are written anew for each cell.
-#[derive(Drop)]
-struct Scratch {
-    places: Vec<u32>,
-    numbers: Vec<u32>,
-}
-
 // Appends the cells of the tile that one of its cells feeds, by their numbers.
-fn add_fed(
+fn push_fed_cells(
     drain: &Drain,
     tiling: &Tiling,
     tile: u32,
     rect: Rect,
     orient: Orient,
     cell: u32,
-    scratch: &mut Scratch,
-    fed: &mut Lists,
+    places: &mut Vec<u32>,
+    cells: &mut Vec<u32>,
 ) -> Result<(), AllocError>
     requires size { HasSizeOf drain.now tiling.now }
     requires drain { IsDrain drain.now }
@@ -109,22 +102,15 @@ fn add_fed(
     requires rect { rect ≡ rect_of tiling.now tile }
     requires inside { IsInMap tiling.now.rows tiling.now.cols rect }
     requires cell { cell < cell_count rect }
-    ensures { OnOk result (fed.new ≡ fed.old ++ fed_in_tile orient drain.now tiling.now tile cell ∷ []) }
+    ensures { OnOk result (cells.new.items ≡ cells.old.items ++ fed_in_tile orient drain.now tiling.now tile cell) }
 {
-    scratch.places.clear();
-    push_fed(
-        drain,
-        tiling,
-        orient,
-        place(tiling, rect, cell),
-        &mut scratch.places,
-    )?;
-    scratch.numbers.clear();
-    push_numbers(tiling, tile, rect, &scratch.places, &mut scratch.numbers)?;
-    fed.add(&scratch.numbers)
+    places.clear();
+    push_fed(drain, tiling, orient, place(tiling, rect, cell), places)?;
+    push_numbers(tiling, tile, rect, places, cells)
 }
 
-// For each cell of the tile the cells that it feeds there, by their numbers.
+// For each cell of the tile the cells that it feeds there, by their numbers. These are no more than the tile's cells: in one
+// orientation a cell feeds one at most, in the other it is fed by one at most.
 pub(crate) fn fed_lists(
     alloc: Global,
     drain: &Drain,
@@ -132,7 +118,7 @@ pub(crate) fn fed_lists(
     tile: u32,
     rect: Rect,
     orient: Orient,
-) -> Result<Lists, AllocError>
+) -> Result<FedCells, AllocError>
     requires size { HasSizeOf drain.now tiling.now }
     requires drain { IsDrain drain.now }
     requires tile { tile < tile_count tiling.now }
@@ -140,24 +126,24 @@ pub(crate) fn fed_lists(
     requires inside { IsInMap tiling.now.rows tiling.now.cols rect }
     ensures { IfOk result (λ fed. fed ≡ over_cells (fed_in_tile orient drain.now tiling.now tile) (cell_count rect)) }
 {
-    let mut fed = Lists::new(alloc);
-    let mut scratch = Scratch {
-        places: Vec::new(alloc),
-        numbers: Vec::new(alloc),
-    };
-    for cell in 0..count_of(tiling, rect) {
-        add_fed(
+    let count = count_of(tiling, rect);
+    let mut ends = Vec::with_capacity(alloc, count as usize)?;
+    let mut cells = Vec::with_capacity(alloc, count as usize)?;
+    let mut places = Vec::new(alloc);
+    for cell in 0..count {
+        push_fed_cells(
             drain,
             tiling,
             tile,
             rect,
             orient,
             cell,
-            &mut scratch,
-            &mut fed,
+            &mut places,
+            &mut cells,
         )?;
+        ends.push(cells.len() as u32)?;
     }
-    Ok(fed)
+    Ok(FedCells::of(ends, cells))
 }
 
 // The orientation in which what feeds and what is fed change places.
@@ -178,7 +164,7 @@ pub(crate) fn missing_counts(
     tile: u32,
     rect: Rect,
     orient: Orient,
-) -> Result<Vec<u32>, AllocError>
+) -> Result<Vec<u8>, AllocError>
     requires size { HasSizeOf drain.now tiling.now }
     requires drain { IsDrain drain.now }
     requires tile { tile < tile_count tiling.now }
@@ -198,7 +184,7 @@ pub(crate) fn missing_counts(
             place(tiling, rect, cell),
             &mut feeders,
         )?;
-        missing.push(feeders.len() as u32)?;
+        missing.push(feeders.len() as u8)?;
     }
     Ok(missing)
 }
@@ -237,7 +223,7 @@ pub(crate) fn directed_cells(
 }
 
 // The cells to which nothing is to come, with room for all.
-pub(crate) fn first_queue(alloc: Global, missing: &[u32]) -> Result<Vec<u32>, AllocError>
+pub(crate) fn first_queue(alloc: Global, missing: &[u8]) -> Result<Vec<u32>, AllocError>
     requires { length missing.now ≤ 4294967295 }
     ensures items { IfOk result (λ queue. queue.items ≡ none_missing missing.now) }
     ensures room { IfOk result (λ queue. length missing.now ≤ vec_capacity queue) }
@@ -300,9 +286,9 @@ fn no_inflows<R: FlowRule>(alloc: Global, rule: &R, count: usize) -> Result<Vec<
 // The cells of a tile to which nothing has come yet.
 #[derive(Drop)]
 pub(crate) struct FirstCells<A> {
-    pub fed: Lists,
+    pub fed: FedCells,
     pub directed: Vec<bool>,
-    pub missing: Vec<u32>,
+    pub missing: Vec<u8>,
     pub queue: Vec<u32>,
     pub inflows: Vec<A>,
 }

@@ -8,6 +8,7 @@ mod about;
 mod base;
 mod begin;
 mod due;
+mod fed;
 mod kit;
 mod link;
 mod packed;

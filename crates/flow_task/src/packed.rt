@@ -1,67 +1,64 @@
 //! Cells in less memory.
 
-ghost use Rattle.std.specs.Prelude.{◌≡◌, ◌<◌, IfOk, length};
-ghost use Rattle.flow_task.specs.inside.Begins.{is_coded};
-ghost use Rattle.flow_task.specs.inside.Packed.{packed_number};
+ghost use Rattle.std.specs.Prelude.{◌≡◌, ℕ, ◌<◌, IfOk, length};
+ghost use Rattle.cell_values.specs.Kinds.{IsCell};
+ghost use Rattle.cell_values.specs.declared.kind.Kind.TheVariants.{Scalar};
+ghost use Rattle.flow_task.specs.inside.Packed.{packed_number, unpacked_cell};
 ghost use Rattle.tile_map.specs.Cuts.{cell_at};
 
 use cell_values::Cell;
 use std::alloc::{AllocError, Global};
 use std::marker::Model;
 
-/// Cells in nine bytes each in place of sixteen: their numbers, and which of them have one. Contracts see the list of cells.
+/// Cells within the range of scalars in eight bytes each in place of sixteen: a number below that range stands for a missing
+/// one. Contracts see the list of cells.
 #[derive(Drop)]
 pub(crate) struct PackedCells {
     numbers: Vec<i64>,
-    known: Vec<bool>,
 }
 
 impl Model for PackedCells {
-    ghost use Rattle.std.specs.Prelude.{◌≡◌, List, length};
+    ghost use Rattle.std.specs.Prelude.{List, map};
     ghost use Rattle.cell_values.specs.declared.cell.Cell.{Cell as TheCell};
-    ghost use Rattle.flow_task.specs.inside.Packed.{unpacked_cells};
+    ghost use Rattle.flow_task.specs.inside.Packed.{unpacked_cell};
 
     ghost Value = { List TheCell };
 
-    ghost view = { λ p. unpacked_cells p.known.items p.numbers.items };
-
-    ghost invariant = { λ p. length p.known.items ≡ length p.numbers.items };
+    ghost view = { λ p. map unpacked_cell p.numbers.items };
 }
 
-// The number of a cell, 0 where it has none.
+// The number that is kept of a cell.
 fn packed_number(cell: Cell) -> i64
     ensures { result ≡ packed_number cell }
 {
     match cell {
-        Cell::Mv => 0,
+        Cell::Mv => i64::MIN,
         Cell::Val(number) => number,
     }
 }
 
-// Whether a cell has a number.
-fn is_known(cell: Cell) -> bool
-    ensures { result ≡ is_coded cell }
+// The cell of which a number is kept.
+fn unpacked_cell(number: i64) -> Cell
+    ensures { result ≡ unpacked_cell number }
 {
-    match cell {
-        Cell::Mv => false,
-        Cell::Val(_) => true,
+    if number == i64::MIN {
+        Cell::Mv
+    } else {
+        Cell::Val(number)
     }
 }
 
 impl PackedCells {
     /// These cells.
     pub fn pack(alloc: Global, cells: &[Cell]) -> Result<PackedCells, AllocError>
+        requires { (i : ℕ) → IsCell Scalar (cell_at cells.now i) }
         ensures { IfOk result (λ packed. packed ≡ cells.now) }
     {
         let mut numbers = Vec::with_capacity(alloc, cells.len())?;
         for cell in cells {
             numbers.push(packed_number(*cell))?;
         }
-        let mut known = Vec::with_capacity(alloc, cells.len())?;
-        for cell in cells {
-            known.push(is_known(*cell))?;
-        }
-        Ok(PackedCells { numbers, known })
+        Ok(PackedCells { numbers })
     }
 
     /// The cell at a place of the list.
@@ -69,10 +66,6 @@ impl PackedCells {
         requires { place < length self.now }
         ensures { result ≡ cell_at self.now place }
     {
-        if self.known[place] {
-            Cell::Val(self.numbers[place])
-        } else {
-            Cell::Mv
-        }
+        unpacked_cell(self.numbers[place])
     }
 }

@@ -6,20 +6,20 @@ ghost use Rattle.flow_task.specs.inside.States.{Grows, state};
 ghost use Rattle.flow_task.specs.inside.Underway.{IsWorkBegun, IsUnderway, tile_size};
 
 use crate::about::About;
+use crate::fed::FedCells;
 use crate::packed::PackedCells;
 use crate::state::end_cell;
 use drain_meaning::FlowRule;
-use number_lists::Lists;
 
 // Gives each queued cell its turn, from this place of the queue on, and each cell that is queued meanwhile.
 pub(crate) fn settle<R: FlowRule>(
     rule: &R,
     about: &About,
-    fed: &Lists,
+    fed: &FedCells,
     a: &PackedCells,
     b: &PackedCells,
     inflows: &mut Vec<R::Acc>,
-    missing: &mut Vec<u32>,
+    missing: &mut Vec<u8>,
     queue: &mut Vec<u32>,
     from: usize,
 )

@@ -6,15 +6,15 @@ ghost use Rattle.drain_meaning.specs.Rules.{FitsBefore};
 ghost use Rattle.tile_map.specs.Cuts.{cell_at};
 ghost use Rattle.flow_task.specs.inside.States.{CanEnd, CanPass, CanReceive, end_here, fed_cells, inflow_at, missing_at, passed_on, queued, received, state};
 
+use crate::fed::FedCells;
 use crate::packed::PackedCells;
 use drain_meaning::{Flow, FlowEnd, FlowRule};
-use number_lists::Lists;
 
 // A flow comes to a cell. The cell is queued where nothing more is missing.
 pub(crate) fn receive<R: FlowRule>(
     rule: &R,
     inflows: &mut Vec<R::Acc>,
-    missing: &mut Vec<u32>,
+    missing: &mut Vec<u8>,
     queue: &mut Vec<u32>,
     cell: u32,
     flow: Flow,
@@ -38,7 +38,7 @@ pub(crate) fn receive<R: FlowRule>(
 pub(crate) fn pass_on<R: FlowRule>(
     rule: &R,
     inflows: &mut Vec<R::Acc>,
-    missing: &mut Vec<u32>,
+    missing: &mut Vec<u8>,
     queue: &mut Vec<u32>,
     cells: &[u32],
     flow: Flow,
@@ -73,11 +73,11 @@ pub(crate) fn end_of<R: FlowRule>(
 // A cell to which all has come has its end, and passes its flow on in the tile.
 pub(crate) fn end_cell<R: FlowRule>(
     rule: &R,
-    fed: &Lists,
+    fed: &FedCells,
     a: &PackedCells,
     b: &PackedCells,
     inflows: &mut Vec<R::Acc>,
-    missing: &mut Vec<u32>,
+    missing: &mut Vec<u8>,
     queue: &mut Vec<u32>,
     cell: u32,
 )

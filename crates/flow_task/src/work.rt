@@ -11,6 +11,7 @@ ghost use Rattle.flow_task.specs.Works.{CanAccept, CanBegin, accepted, flow_begu
 use crate::about::About;
 use crate::begin::{first_border, first_cells};
 use crate::due::{DueLinks, marked_cells, note_settled};
+use crate::fed::FedCells;
 use crate::link::Link;
 use crate::packed::PackedCells;
 use crate::settle::settle;
@@ -18,7 +19,6 @@ use crate::state::{end_of, receive};
 use border_channel::{Edge, Message};
 use cell_values::{Cell, Cells, Kind, Over};
 use drain_meaning::{Drain, Flow, FlowEnd, FlowRule, drain_cell};
-use number_lists::Lists;
 use std::alloc::{AllocError, Global};
 use std::marker::Model;
 use std::snapshot::Snapshot;
@@ -32,11 +32,11 @@ pub struct FlowWork<R: FlowRule + Drop> {
     a: PackedCells,
     b: PackedCells,
     directed: Vec<bool>,
-    fed: Lists,
+    fed: FedCells,
     inbound: Vec<Link>,
     outbound: Vec<Link>,
     inflows: Vec<R::Acc>,
-    missing: Vec<u32>,
+    missing: Vec<u8>,
     queue: Vec<u32>,
     unsent: Vec<bool>,
     sent: Vec<u32>,

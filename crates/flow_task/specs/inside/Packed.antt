@@ -1,15 +1,18 @@
 -- Cells by their numbers. Words of private contracts.
-use Rattle.std.specs.Prelude.{ℤ, pos, Bool, List, [], ◌∷◌, if◌then◌else◌}
+use Rattle.std.specs.Prelude.{ℤ, negsuc, if◌then◌else◌}
+use Rattle.std.specs.Ordering.{int_eq}
 use Rattle.cell_values.specs.declared.cell.Cell.{Cell}
 use Rattle.cell_values.specs.declared.cell.Cell.TheVariants.{Mv, Val}
 
--- the cells with these numbers, those that are known
-abbrev pub unpacked_cells : List Bool → List ℤ → List Cell
-unpacked_cells [] numbers = []
-unpacked_cells (k ∷ known) [] = []
-unpacked_cells (k ∷ known) (n ∷ numbers) = (if k then Val n else Mv) ∷ unpacked_cells known numbers
+-- the number that is kept of a missing cell: the least of 64 bits, below all scalars
+abbrev pub kept_missing : ℤ
+kept_missing = negsuc 9223372036854775807
 
--- the number of a cell, 0 where it has none
+-- the number that is kept of a cell
 abbrev pub packed_number : Cell → ℤ
-packed_number Mv = pos 0
+packed_number Mv = kept_missing
 packed_number (Val n) = n
+
+-- the cell of which a number is kept
+abbrev pub unpacked_cell : ℤ → Cell
+unpacked_cell n = if int_eq n kept_missing then Mv else Val n

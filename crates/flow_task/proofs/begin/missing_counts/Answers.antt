@@ -26,4 +26,4 @@ overflow_cast-len c =
     let few = fed_few c.turned_round.result m c.requires.drain c.place.result in
     let len : c.len.result ≡ length c.push_fed.new.into.items = omega arith in
     let many : c.len.result ≡ length (fed_by c.turned_round.result m c.place.result) = len ∙ ap length fed in
-    omega (arith, few, many, c.requires.drain.map.size, c.requires.drain.map.few)
+    omega (arith, few, many)

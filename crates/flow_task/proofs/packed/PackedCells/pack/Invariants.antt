@@ -1,12 +1,7 @@
 use Rattle.std.proofs.Common.{◌≡◌, take, map}
-use Rattle.flow_task.specs.inside.Begins.{is_coded}
 use Rattle.flow_task.specs.inside.Packed.{packed_number}
 use Rattle.flow_task.proofs.packed.PackedCells.pack.Given as goal
 
 -- the numbers of the first cells are there
 abbrev pub invariant-loop-cell : goal.invariant-loop-cell
 invariant-loop-cell l = l.numbers.items ≡ map packed_number (take l.cell-index l.cells)
-
--- and which of them are known
-abbrev pub invariant-loop-cell-2 : goal.invariant-loop-cell-2
-invariant-loop-cell-2 l = l.known.items ≡ map is_coded (take l.cell-index l.cells)

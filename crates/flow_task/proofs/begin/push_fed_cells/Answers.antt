@@ -1,7 +1,7 @@
 use Rattle.std.proofs.Common.{◌≡◌, ◌∙◌, ℕ, List, ◌++◌, ap}
 use Rattle.border_channel.specs.Edges.{fed_by}
 use Rattle.border_channel.proofs.Callers.{all_within}
-use Rattle.flow_task.proofs.begin.add_fed.Goals as goal
+use Rattle.flow_task.proofs.begin.push_fed_cells.Goals as goal
 
 pub push_numbers-requires-clause-places : goal.push_numbers-requires-clause-places
 push_numbers-requires-clause-places c =
