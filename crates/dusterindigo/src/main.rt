@@ -2,24 +2,24 @@
 //! ends with the status of the answer.
 #![tactic(auto)]
 
-ghost use Rattle.std.specs.Prelude.{◌≡◌, ◌⊎◌, map, drop, IfOk};
+ghost use Rattle.std.specs.Prelude.{◌≡◌, ◌⊎◌, map, drop, IfErr, IfOk};
+ghost use Rattle.std.specs.IoError.{error_kind};
 ghost use Rattle.std.specs.Iterator.{Drains};
 ghost use Rattle.std.specs.String.{string_bytes};
 ghost use Rattle.std.specs.Vec.Iter.{into_iter_steps};
 ghost use Rattle.lue_run.specs.Answers.{call_of};
 ghost use Rattle.lue_run.specs.Lines.{status_of};
-ghost use Rattle.lue_run.specs.Words.{plain_command};
 ghost use Rattle.lue_run.specs.declared.ended.Ended.TheVariants.{Memory};
-ghost use Rattle.dusterindigo.specs.Statuses.{AnswersWith, IsStatus};
+ghost use Rattle.dusterindigo.specs.Commands.{begins_plain, program_command};
+ghost use Rattle.dusterindigo.specs.Statuses.{AnswersWith, IsWithoutWords, Untouched};
 
 use cell_values::Word;
-use lue_run::{Ended, lue_plain, status};
-use outside_io::{FileFolder, Folder, Sink, StdSink};
+use lue_run::{Ended, lue_main, lue_plain, status};
+use outside_io::{FileFolder, Folder, Gate, OpenGate, Sink, StdSink};
 use std::alloc::{AllocError, Global};
 use std::env::{self, Args};
-use std::io::ErrorKind;
+use std::io::{self, ErrorKind};
 use std::process::ExitCode;
-use std::rt::{Env, Files};
 
 /// The status where the words cannot be had, and not for want of memory.
 const NO_WORDS: u8 = 13;
@@ -40,7 +40,7 @@ fn words_of(alloc: Global, mut args: Args) -> Result<Vec<Word>, AllocError>
 
 // The status where the words cannot be had.
 fn without_words(kind: ErrorKind) -> u8
-    ensures { ((kind ≡ ErrorKind.OutOfMemory) × (result ≡ status_of Memory)) ⊎ ((kind ≡ ErrorKind.OutOfMemory → ⊥) × (result ≡ 13)) }
+    ensures { IsWithoutWords kind result }
 {
     match kind {
         ErrorKind::OutOfMemory => status(&Ended::Memory),
@@ -48,41 +48,66 @@ fn without_words(kind: ErrorKind) -> u8
     }
 }
 
-// Does what the words ask for, in the folder, and gives the status of the answer.
-fn run_words<F: Folder, S: Sink>(alloc: Global, words: &[Word], folder: &mut F, out: &mut S) -> u8
-    ensures { AnswersWith (call_of (plain_command words.now) (F.state folder.old) (F.state folder.new) (S.state out.old) (S.state out.new)) result }
+// Whether the first word is a command of `lue_plain`.
+fn begins_plain(words: &[Word]) -> bool
+    ensures { result ≡ begins_plain words.now }
 {
-    let answer = lue_plain(alloc, words, folder, out);
-    status(&answer)
-}
-
-// Does what the words among the texts that are given ask for, in the folder, and gives the status of the answer. Where
-// memory does not suffice for the words nothing is done.
-fn run_texts<F: Folder, S: Sink>(alloc: Global, args: Args, folder: &mut F, out: &mut S) -> u8
-    ensures { ((result ≡ status_of Memory) × (F.state folder.new ≡ F.state folder.old) × (S.state out.new ≡ S.state out.old))
-        ⊎ ((texts : _) × Drains into_iter_steps args texts
-        × AnswersWith (call_of (plain_command (drop 1 (map string_bytes texts))) (F.state folder.old) (F.state folder.new) (S.state out.old) (S.state out.new)) result) }
-{
-    match words_of(alloc, args) {
-        Ok(words) => run_words(alloc, &words, folder, out),
-        Err(_) => status(&Ended::Memory),
+    match words {
+        [command, ..] => {
+            let command = command.bytes();
+            command == b"plain".as_slice() || command == b"make".as_slice()
+        }
+        [] => false,
     }
 }
 
-// Does what the words of the command line ask for, in the current folder, and gives the status.
-fn run<R: Env + Files + Print + AllocGlobal>(rt: &R) -> u8
-    ensures { IsStatus result }
+// Does what the words ask for, in the folder, and gives the status of the answer.
+fn run_words<F: Folder, S: Sink, G: Gate>(
+    alloc: Global,
+    words: &[Word],
+    folder: &mut F,
+    out: &mut S,
+    gate: &G,
+) -> u8
+    ensures { AnswersWith (call_of (program_command words.now) (F.state folder.old) (F.state folder.new) (S.state out.old) (S.state out.new)) result }
 {
-    match env::args(rt) {
-        Ok(args) => {
-            let mut folder = FileFolder::here(rt);
-            let mut out = StdSink::new(rt);
-            run_texts(rt.alloc(), args, &mut folder, &mut out)
-        }
+    if begins_plain(words) {
+        status(&lue_plain(alloc, words, folder, out))
+    } else {
+        status(&lue_main(alloc, words, folder, out, gate))
+    }
+}
+
+// What the program does: of the words that the system gives or cannot give, in this folder, at this sink and through this
+// gate; with the status of the answer.
+fn run<F: Folder, S: Sink, G: Gate>(
+    alloc: Global,
+    args: io::Result<Args>,
+    folder: &mut F,
+    out: &mut S,
+    gate: &G,
+) -> u8
+    ensures given { IfOk args (λ args. ((result ≡ status_of Memory) × Untouched (F.state folder.old) (F.state folder.new) (S.state out.old) (S.state out.new))
+        ⊎ ((texts : _) × Drains into_iter_steps args texts
+        × AnswersWith (call_of (program_command (drop 1 (map string_bytes texts))) (F.state folder.old) (F.state folder.new) (S.state out.old) (S.state out.new)) result)) }
+    ensures without { IfErr args (λ error. IsWithoutWords (error_kind error) result
+        × Untouched (F.state folder.old) (F.state folder.new) (S.state out.old) (S.state out.new)) }
+{
+    match args {
+        Ok(args) => match words_of(alloc, args) {
+            Ok(words) => run_words(alloc, &words, folder, out, gate),
+            Err(_) => status(&Ended::Memory),
+        },
         Err(error) => without_words(error.kind()),
     }
 }
 
 fn main(rt: HostRuntime) -> ExitCode {
-    ExitCode::from(run(&rt))
+    ExitCode::from(run(
+        rt.alloc(),
+        env::args(&rt),
+        &mut FileFolder::here(&rt),
+        &mut StdSink::new(&rt),
+        &OpenGate,
+    ))
 }
