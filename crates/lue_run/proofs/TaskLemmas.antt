@@ -1,5 +1,5 @@
 -- What is so of the number of too many tasks.
-use Rattle.std.proofs.Common.{◌≡◌, ℕ, List, Bool, true, false}
+use Rattle.std.proofs.Common.{ℕ, List, Bool, true, false}
 use Rattle.std.specs.Prelude.{[], ◌∷◌, bytes_eq, codes, if◌then◌else◌}
 use Rattle.std.specs.Option.{option_map}
 use Rattle.std.specs.declared.option.Option.{Option}
@@ -14,7 +14,7 @@ use Rattle.lue_run.specs.declared.ended.Ended.TheVariants as top
 use Rattle.lue_run.specs.Answers.{IfTooManyTold}
 use Rattle.lue_run.specs.Course.{IsCountBy}
 use Rattle.lue_run.specs.Ends.{OfScript, answer_for}
-use Rattle.lue_run.specs.Words.{Command, Make, Plain, last_model_number, number_named, plain_command, script_named}
+use Rattle.lue_run.specs.Words.{Make, Plain, last_model_number, number_named, plain_command, script_named}
 
 -- what is so of the number that a run ends with is so of that of the answer
 pub ended_so : (P : ℕ → Type 0) (end : SessionEnd) → IfTooMany end P → IfTooManyTold (answer_for (outcome_as OfScript (session_outcome end))) P

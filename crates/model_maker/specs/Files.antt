@@ -1,5 +1,5 @@
 -- The files of the model of a number, in order.
-use Rattle.std.specs.Prelude.{ℕ, ◌+◌, ◌*◌, false, List, [], ◌∷◌, take, drop, codes, pos}
+use Rattle.std.specs.Prelude.{ℕ, ◌+◌, ◌*◌, false, List, [], ◌∷◌, get_or, take, drop, codes, pos}
 use Rattle.cell_values.specs.declared.cell.Cell.{Cell}
 use Rattle.cell_values.specs.declared.kind.Kind.{Kind}
 use Rattle.cell_values.specs.declared.kind.Kind.TheVariants.{Nominal, Scalar, Ldd}
@@ -44,3 +44,11 @@ made_files number =
     ∷ (codes "made_soil.asc", grid_file Scalar (soil_cells (cell_draws number)))
     ∷ (codes "made_rain.tss", rain_file (rain_draws number))
     ∷ []
+
+-- in the place of a file where there is none
+abbrev pub no_file : List ℕ × List ℕ
+no_file = ([], [])
+
+-- the file of the model of a number that has this place
+abbrev pub made_file_at : ℕ → ℕ → List ℕ × List ℕ
+made_file_at number place = get_or (made_files number) place no_file

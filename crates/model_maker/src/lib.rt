@@ -11,5 +11,5 @@ mod laws;
 mod rain;
 mod script;
 
-pub use files::{Made, make_model};
+pub use files::{DrawnModel, Made, make_model};
 pub use laws::made_drain_maps_are_sound;

@@ -1,14 +1,12 @@
 -- How the model was made and put, by how this came out.
-use Rattle.std.proofs.Common.{length, map, refl, sym, ap, subst, ◌∙◌}
+use Rattle.std.proofs.Common.{ℕ, length, refl, ap, subst, ◌∙◌}
 use Rattle.std.specs.Prelude.{Err}
-use Rattle.std.proofs.lemmas.List.{length-map}
 use Rattle.outside_io.specs.Causes.{CameTo, CutOff, NoMemory, WriteFault, outcome_by, why_by}
 use Rattle.outside_io.specs.Met.{Meets}
 use Rattle.outside_io.specs.Puts.{no_error}
 use Rattle.outside_io.specs.Runs.{in_turn}
 use Rattle.outside_io.proofs.Callers.{meets_no_memory, read_keeps_all}
 use Rattle.model_maker.specs.Files.{made_files}
-use Rattle.model_maker.specs.Made.{file_made}
 use Rattle.lue_run.specs.declared.ended.Ended.TheVariants as top
 use Rattle.lue_run.specs.declared.make.NotPut.{NotPut}
 use Rattle.lue_run.specs.Course.{made_put, make_run}
@@ -25,11 +23,10 @@ returns-in_default g c =
 pub returns-in-Ok-put_all : goal.returns-in-Ok-put_all
 returns-in-Ok-put_all g c =
     let state = g.F.Folder.state in
-    let are = ap (map file_made) c.deref.ensures.value ∙ c.in-Ok.ensures in
     record {
       outcome = CameTo (OfModel (length (made_files c.args.number)));
-      is = ap top.Made (c.len.ensures ∙ sym c.deref.ensures.len ∙ sym (length-map c.deref.result.now file_made) ∙ ap length are);
-      came = puts_meet c.args.number (map file_made c.deref.result.now) (state c.args.folder.now) (state c.put_all.new.folder) _ are c.in-Ok-put_all.ensures;
+      is = ap top.Made (c.count.ensures ∙ ap (λ (n : ℕ). length (made_files n)) c.in-Ok.ensures);
+      came = puts_meet c.args.number (made_files c.in-Ok.model) (state c.args.folder.now) (state c.put_all.new.folder) _ (ap made_files c.in-Ok.ensures) c.in-Ok-put_all.ensures;
       made = λ is. cc is;
       tasks = tt;
     }
@@ -39,12 +36,12 @@ returns-in-Err-Failed g c =
     let state = g.F.Folder.state in
     let old = state c.args.folder.now in
     let new = state c.put_all.new.folder in
-    let are = ap (map file_made) c.deref.ensures.value ∙ c.in-Ok.ensures in
+    let files = made_files c.in-Ok.model in
     record {
       outcome = CutOff (WriteFault c.in-Err-Failed.name);
       is = refl;
-      came = puts_meet c.args.number (map file_made c.deref.result.now) old new (CutOff (WriteFault c.in-Err-Failed.name)) are
-          (subst (λ (why : NotPut). Meets (why_by no_error) (in_turn made_put tt (map file_made c.deref.result.now)) old new (outcome_by not_put_outcome (Err why))) c.in-Err-Failed.field-0-is c.in-Err-Failed.ensures);
+      came = puts_meet c.args.number files old new (CutOff (WriteFault c.in-Err-Failed.name)) (ap made_files c.in-Ok.ensures)
+          (subst (λ (why : NotPut). Meets (why_by no_error) (in_turn made_put tt files) old new (outcome_by not_put_outcome (Err why))) c.in-Err-Failed.field-0-is c.in-Err-Failed.ensures);
       made = λ is. cc is;
       tasks = tt;
     }
@@ -54,12 +51,12 @@ returns g c =
     let state = g.F.Folder.state in
     let old = state c.args.folder.now in
     let new = state c.put_all.new.folder in
-    let are = ap (map file_made) c.deref.ensures.value ∙ c.in-Ok.ensures in
+    let files = made_files c.in-Ok.model in
     record {
       outcome = CutOff NoMemory;
       is = refl;
-      came = puts_meet c.args.number (map file_made c.deref.result.now) old new (CutOff NoMemory) are
-          (subst (λ (why : NotPut). Meets (why_by no_error) (in_turn made_put tt (map file_made c.deref.result.now)) old new (outcome_by not_put_outcome (Err why))) c.in-Err-Memory.field-0-is c.in-Err-Memory.ensures);
+      came = puts_meet c.args.number files old new (CutOff NoMemory) (ap made_files c.in-Ok.ensures)
+          (subst (λ (why : NotPut). Meets (why_by no_error) (in_turn made_put tt files) old new (outcome_by not_put_outcome (Err why))) c.in-Err-Memory.field-0-is c.in-Err-Memory.ensures);
       made = λ is. cc is;
       tasks = tt;
     }

@@ -1,5 +1,5 @@
 -- The run, with the count of tasks of scripts.
-use Rattle.std.proofs.Common.{◌≡◌, ◌∙◌, ℕ, ap, ap₂, sym, subst}
+use Rattle.std.proofs.Common.{◌≡◌, ℕ, ap, sym, subst}
 use Rattle.outside_io.specs.Met.{Meets}
 use Rattle.run_session.specs.Asked.{CountsTasks}
 use Rattle.run_session.specs.Ends.{session_outcome, why}
