@@ -1,4 +1,4 @@
-mod ListLemmas
+pub mod ListLemmas
 mod TurnedLemmas
 mod HolderLemmas
 pub mod Callers

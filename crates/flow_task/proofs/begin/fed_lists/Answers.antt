@@ -1,6 +1,7 @@
 use Rattle.std.proofs.Common.{◌≡◌, ◌∙◌, ◌+◌, ◌++◌, ◌∷◌, ℕ, List, [], ap, subst, sym, arith, length, length-append, refl}
 use Rattle.number_lists.specs.inside.Joined.{EndsAt, lists_of}
-use Rattle.flow_task.proofs.FedLemmas.{ends_more, lists_more, none_are, none_end}
+use Rattle.number_lists.proofs.ListLemmas.{ends_more, lists_more}
+use Rattle.flow_task.proofs.FedLemmas.{none_are, none_end}
 use Rattle.flow_task.specs.inside.Begins.{fed_in_tile}
 use Rattle.flow_task.proofs.Within.{fed_in_few, over_more}
 use Rattle.flow_task.proofs.begin.fed_lists.Goals as goal

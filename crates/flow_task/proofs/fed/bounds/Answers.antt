@@ -1,6 +1,6 @@
 use Rattle.std.proofs.Common.{arith, ◌∙◌, ℕ, ap, get_or, []}
 use Rattle.number_lists.specs.inside.Joined.{lists_of}
-use Rattle.flow_task.proofs.FedLemmas.{first_list, later_at, end_within, order_at}
+use Rattle.number_lists.proofs.ListLemmas.{end_within, first_list, later_at, order_at}
 use Rattle.flow_task.proofs.fed.bounds.Goals as goal
 
 pub returns-then-i-eq0-clause-list : goal.returns-then-i-eq0-clause-list

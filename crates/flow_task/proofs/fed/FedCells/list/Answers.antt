@@ -1,6 +1,6 @@
 use Rattle.std.proofs.Common.{arith, ◌≡◌, ◌∙◌, ℕ, ◌-◌, ◌<◌, sym, ap, subst, length, List, [], get_or, take, drop}
 use Rattle.number_lists.specs.inside.Joined.{lists_of}
-use Rattle.flow_task.proofs.FedLemmas.{count_lists}
+use Rattle.number_lists.proofs.ListLemmas.{count_lists}
 use Rattle.flow_task.proofs.fed.FedCells.list.Goals as goal
 
 pub bounds-start-requires-clause-i : goal.bounds-start-requires-clause-i
