@@ -11,7 +11,8 @@ use Rattle.drain_meaning.specs.Equations.{orient_of}
 use Rattle.border_channel.specs.declared.edge.Edge.{Edge}
 use Rattle.border_channel.specs.Edges.{border_edges_of}
 use Rattle.task_graph.specs.declared.flows.FlowTasks.{FlowTasks}
-use Rattle.plan_graph.specs.Borders.{AreDrained, IsDrained, edge_total, edges_for, no_drain_map, no_flow}
+use Rattle.plan_graph.specs.Borders.{AreDrained, IsDrained, edges_for, no_drain_map, no_flow}
+use Rattle.plan_graph.specs.Numbered.{count_all}
 use Rattle.plan_graph.specs.inside.Made.{AreMade, kept_borders, orient_bit, slot_of}
 
 -- what is kept at one place is of one drain map and one orientation
@@ -92,16 +93,16 @@ pub slots_below : (g : Tiling) (drains : List DrainMap) (flows : List FlowTasks)
     (f : ℕ) → f < length flows → slot_of (get_or flows f no_flow) < length lists
 slots_below g drains flows lists are size f below = let h = slot_below g drains (get_or flows f no_flow) (are f below) in omega arith
 
-total_append : (xss : List (List Edge)) (ys : List Edge) → edge_total (xss ++ ys ∷ []) ≡ edge_total xss + length ys
+total_append : (xss : List (List Edge)) (ys : List Edge) → count_all (xss ++ ys ∷ []) ≡ count_all xss + length ys
 total_append [] ys = omega arith
 total_append (xs ∷ xss) ys = let rest = total_append xss ys in omega arith
 
 -- the edges of one transport more
 pub total_more : (lists : List (List Edge)) (flows : List FlowTasks) (n : ℕ) → n < length flows →
-    edge_total (kept_borders lists (take (n + 1) flows)) ≡ edge_total (kept_borders lists (take n flows)) + length (get_or lists (slot_of (get_or flows n no_flow)) [])
+    count_all (kept_borders lists (take (n + 1) flows)) ≡ count_all (kept_borders lists (take n flows)) + length (get_or lists (slot_of (get_or flows n no_flow)) [])
 total_more lists flows n below =
-    ap (λ (fs : List FlowTasks). edge_total (kept_borders lists fs)) (take_more flows n no_flow below)
-    ∙ (ap edge_total (map-append (λ (flow : FlowTasks). get_or lists (slot_of flow) []) (take n flows) (get_or flows n no_flow ∷ []))
+    ap (λ (fs : List FlowTasks). count_all (kept_borders lists fs)) (take_more flows n no_flow below)
+    ∙ (ap count_all (map-append (λ (flow : FlowTasks). get_or lists (slot_of flow) []) (take n flows) (get_or flows n no_flow ∷ []))
     ∙ total_append (kept_borders lists (take n flows)) (get_or lists (slot_of (get_or flows n no_flow)) []))
 
 read_any : (xss : List (List Edge)) (k : ℕ) (d e : List Edge) → k < length xss → get_or xss k d ≡ get_or xss k e
@@ -111,8 +112,8 @@ read_any (xs ∷ xss) (suc k) d e below = read_any xss k d e (omega arith)
 
 -- the count with one transport more
 pub total_step : (lists all : List (List Edge)) (flows : List FlowTasks) (n total count slot : ℕ) (xs : List Edge) → n < length flows →
-    ((f : ℕ) → f < length flows → slot_of (get_or flows f no_flow) < length lists) → total ≡ edge_total (kept_borders lists (take n flows)) → count ≡ length xs →
-    xs ≡ get_or all slot xs → all ≡ lists → slot ≡ slot_of (get_or flows n no_flow) → total + count ≡ edge_total (kept_borders lists (take (n + 1) flows))
+    ((f : ℕ) → f < length flows → slot_of (get_or flows f no_flow) < length lists) → total ≡ count_all (kept_borders lists (take n flows)) → count ≡ length xs →
+    xs ≡ get_or all slot xs → all ≡ lists → slot ≡ slot_of (get_or flows n no_flow) → total + count ≡ count_all (kept_borders lists (take (n + 1) flows))
 total_step lists all flows n total count slot xs below slots before size is same at =
     let own : xs ≡ get_or lists (slot_of (get_or flows n no_flow)) [] =
     is ∙ (ap (λ (ls : List (List Edge)). get_or ls slot xs) same ∙ (ap (λ (k : ℕ). get_or lists k xs) at ∙ read_any lists (slot_of (get_or flows n no_flow)) xs [] (slots n below))) in

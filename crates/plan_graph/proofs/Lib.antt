@@ -1,4 +1,2 @@
 mod BorderLemmas
 mod DrainLemmas
-mod NeedLemmas
-mod PlanLemmas

@@ -1,5 +1,5 @@
 -- The border edges of a plan's transports.
-use Rattle.std.specs.Prelude.{◌≡◌, ℕ, ◌+◌, ◌<◌, List, [], ◌∷◌, get_or, length, map}
+use Rattle.std.specs.Prelude.{◌≡◌, ℕ, ◌<◌, List, [], get_or, length, map}
 use Rattle.tile_map.specs.declared.tiling.Tiling.{Tiling}
 use Rattle.drain_meaning.specs.declared.op.FlowOp.TheVariants.{Accuflux}
 use Rattle.drain_meaning.specs.declared.op.Orient.{Orient}
@@ -48,11 +48,6 @@ edges_for g drains flow = border_edges_of (drain_of drains flow) g (orient_of fl
 -- the border edges of each of a plan's transports
 abbrev pub borders_of : PlanValue → List DrainMap → List (List Edge)
 borders_of plan drains = map (edges_for plan.tiling drains) plan.flows
-
--- how many edges some transports have together
-abbrev pub edge_total : List (List Edge) → ℕ
-edge_total [] = 0
-edge_total (edges ∷ more) = length edges + edge_total more
 
 -- the drain map of a transport is there, and of the tiling's size
 pub record IsDrained (g : Tiling) (drains : List DrainMap) (flow : FlowTasks) : Type 0 where

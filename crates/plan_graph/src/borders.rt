@@ -2,7 +2,8 @@
 
 ghost use Rattle.std.specs.Prelude.{◌≡◌, ◌≤◌, ◌<◌, ◌+◌, ◌*◌, ℕ, [], true, false, get_or, length, map, replicate, IfOk, IfSome, OnOk};
 ghost use Rattle.drain_meaning.specs.Equations.{orient_of};
-ghost use Rattle.plan_graph.specs.Borders.{AreDrained, IsDrained, borders_of, edge_total, edges_for, no_flow};
+ghost use Rattle.plan_graph.specs.Borders.{AreDrained, IsDrained, borders_of, edges_for, no_flow};
+ghost use Rattle.plan_graph.specs.Numbered.{count_all};
 ghost use Rattle.plan_graph.specs.inside.Made.{AreMade, kept_borders, slot_of};
 
 use border_channel::{Edge, border_edges};
@@ -129,7 +130,7 @@ fn made_lists(
 // How many edges these transports have together; none where they are more than a board could count.
 fn total(lists: &Items<Items<Edge>>, flows: &[FlowTasks]) -> Option<u32>
     requires { (f : ℕ) → f < length flows.now → slot_of (get_or flows.now f no_flow) < length lists.now }
-    ensures { IfSome result (λ total. total ≡ edge_total (kept_borders lists.now flows.now)) }
+    ensures { IfSome result (λ total. total ≡ count_all (kept_borders lists.now flows.now)) }
 {
     let mut total: u32 = 0;
     for flow in flows {
@@ -162,7 +163,7 @@ impl Borders {
 
     /// How many border edges all transports have together.
     pub fn all(&self) -> u32
-        ensures { result ≡ edge_total self.now }
+        ensures { result ≡ count_all self.now }
     {
         self.total
     }

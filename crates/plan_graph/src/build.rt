@@ -1,48 +1,49 @@
-ghost use Rattle.std.specs.Prelude.{◌≡◌, ◌≤◌, [], length, replicate, IfErr, IfOk};
+ghost use Rattle.std.specs.Prelude.{◌≡◌, ◌≤◌, [], IfErr, IfOk, length, take};
 ghost use Rattle.tile_map.specs.Tiles.{tile_count};
 ghost use Rattle.map_meaning.specs.Limits.{most_block};
 ghost use Rattle.map_meaning.specs.Programs.{IsWellFormed};
 ghost use Rattle.map_meaning.specs.Spans.{IsSpan};
-ghost use Rattle.map_meaning.specs.declared.known.Known.{Known};
 ghost use Rattle.task_graph.specs.Counts.{span_tasks};
 ghost use Rattle.task_graph.specs.Ends.{IsEndAt};
 ghost use Rattle.task_graph.specs.Limits.{most_tasks};
 ghost use Rattle.task_graph.specs.Plans.{span_plan};
-ghost use Rattle.plan_graph.specs.PlanGraphs.{IsLocal, IsPlan, IsPlanOf, with_channels};
+ghost use Rattle.plan_graph.specs.Borders.{HasDrainsOf};
+ghost use Rattle.plan_graph.specs.PlanGraphs.{IsLocal, IsPlan, IsPlanOf, with_drains};
 
 use crate::graph::PlanGraph;
-use map_meaning::{Program, Span};
-use number_lists::Lists;
+use map_meaning::{Known, Program, SharedDrain, Span};
 use sqlite_items::Items;
 use std::alloc::{AllocError, Global};
 use task_graph::{Plan, PlanEnd, build_plan};
 use tile_map::Tiling;
 
-// So many empty lists.
-fn empty_lists(alloc: Global, count: u32) -> Result<Lists, AllocError>
-    ensures { IfOk result (λ lists. lists ≡ replicate count []) }
+// The same drain maps, held once more.
+fn shared_drains(alloc: Global, drains: &[SharedDrain]) -> Result<Items<SharedDrain>, AllocError>
+    ensures { IfOk result (λ shared. shared ≡ drains.now) }
 {
-    let mut lists = Lists::new(alloc);
-    for _n in 0..count {
-        lists.add(&[])?;
+    let mut shared = Items::new(alloc);
+    for drain in drains {
+        shared.push(drain.share()?)?;
     }
-    Ok(lists)
+    Ok(shared)
 }
 
-// A plan that has no border edges.
-fn without_edges(alloc: Global, span: Span, plan: Plan) -> Result<PlanGraph, AllocError>
-    requires { IsPlan (with_channels span plan (replicate (length plan.tasks) []) (replicate (length plan.tasks) []) [] [] 0) }
-    ensures { IfOk result (λ graph. graph ≡ with_channels span plan (replicate (length plan.tasks) []) (replicate (length plan.tasks) []) [] [] 0) }
+// A plan that has no border edges, with the drain maps that are known.
+fn without_edges(
+    alloc: Global,
+    span: Span,
+    plan: Plan,
+    known: &Known,
+) -> Result<PlanGraph, AllocError>
+    requires local { plan.flows ≡ [] }
+    requires plan { IsPlan (with_drains span plan known.now.drains) }
+    ensures { IfOk result (λ graph. graph ≡ with_drains span plan known.now.drains) }
 {
-    let outbound = empty_lists(alloc, plan.tasks())?;
-    let inbound = empty_lists(alloc, plan.tasks())?;
+    let drains = shared_drains(alloc, known.drains.as_slice())?;
     Ok(PlanGraph {
         span,
         plan,
-        outbound,
-        inbound,
-        into: Items::new(alloc),
-        rooms: Items::new(alloc),
+        drains,
         edges: 0,
     })
 }
@@ -53,17 +54,19 @@ pub fn build_graph(
     program: &Program,
     span: Span,
     tiling: &Tiling,
+    known: &Known,
 ) -> Result<PlanGraph, PlanEnd>
     requires program { IsWellFormed program.now }
     requires span { IsSpan program.now span most_block }
+    requires drains { HasDrainsOf (span_plan program.now span tiling.now) known.now.drains }
     requires local { (span_plan program.now span tiling.now).flows ≡ [] }
     ensures plan { IfOk result (λ graph. (span_tasks (tile_count tiling.now) program.now span ≤ most_tasks) × (graph.span ≡ span)) }
-    ensures of { IfOk result (λ graph. (known : Known) → IsPlanOf program.now known tiling.now graph) }
+    ensures of { IfOk result (IsPlanOf program.now known.now tiling.now) }
     ensures local { IfOk result IsLocal }
     ensures end { IfErr result (IsEndAt (span_tasks (tile_count tiling.now) program.now span)) }
 {
     let plan = build_plan(alloc, program, span, tiling)?;
-    match without_edges(alloc, span, plan) {
+    match without_edges(alloc, span, plan, known) {
         Ok(graph) => Ok(graph),
         Err(_) => Err(PlanEnd::Memory),
     }

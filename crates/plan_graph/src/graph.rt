@@ -1,38 +1,32 @@
-ghost use Rattle.std.specs.Prelude.{◌≡◌, ◌<◌, false, length, slice_get, slice_index, slice_index_or, Some};
+ghost use Rattle.std.specs.Prelude.{◌≡◌, ◌<◌, false, slice_index_or};
 ghost use Rattle.plan_graph.specs.Graphs.{is_flow_work};
 ghost use Rattle.plan_graph.specs.PlanGraphs.{IsPlan, list_at};
 
-use map_meaning::Span;
-use number_lists::Lists;
+use map_meaning::{SharedDrain, Span};
 use sqlite_items::Items;
 use std::marker::Model;
 use task_graph::{Plan, Work};
 
-/// A plan with its graph: tasks with what each reads and who reads it, and the channels that lead in and out of flow tasks.
+/// A plan with its graph: tasks with what each reads and who reads it, and the drain maps of its transports.
 #[derive(Drop)]
 pub struct PlanGraph {
     pub(crate) span: Span,
     pub(crate) plan: Plan,
-    /// By task, the channel of each of its border edges.
-    pub(crate) outbound: Lists,
-    /// By task, the channels into it.
-    pub(crate) inbound: Lists,
-    /// By channel, the task that it leads into.
-    pub(crate) into: Items<u32>,
-    /// By channel, how many edges it may have.
-    pub(crate) rooms: Items<u32>,
-    /// How many border edges there are.
+    /// The drain maps that are known to the span.
+    pub(crate) drains: Items<SharedDrain>,
+    /// How many border edges all transports have together.
     pub(crate) edges: u32,
 }
 
 impl Model for PlanGraph {
-    ghost use Rattle.plan_graph.specs.PlanGraphs.{IsPlan, PlanGraphValue, with_channels};
+    ghost use Rattle.plan_graph.specs.PlanGraphs.{PlanGraphValue, with_drains};
+    ghost use Rattle.plan_graph.specs.inside.Kept.{KeepsPlan};
 
     ghost Value = { PlanGraphValue };
 
-    ghost view = { λ g. with_channels g.span g.plan g.outbound g.inbound g.into g.rooms g.edges };
+    ghost view = { λ g. with_drains g.span g.plan g.drains };
 
-    ghost invariant = { λ g. IsPlan (with_channels g.span g.plan g.outbound g.inbound g.into g.rooms g.edges) };
+    ghost invariant = { λ g. KeepsPlan g.span g.plan g.drains g.edges };
 }
 
 // Whether it is the work of a transport.
@@ -66,7 +60,7 @@ impl PlanGraph {
     }
 
     /// How many border edges there are, over all transports.
-    pub fn edges(&self) -> u32
+    pub fn all_edges(&self) -> u32
         ensures { result ≡ self.now.edges }
     {
         self.edges
@@ -94,38 +88,5 @@ impl PlanGraph {
         ensures { result ≡ slice_index_or self.now.flows task false }
     {
         is_flow_work(self.plan.task(task).work)
-    }
-
-    /// The channel of a task's border edge.
-    pub fn channel(&self, task: u32, edge: u32) -> u32
-        requires task { task < self.now.tasks }
-        requires edge { edge < length (list_at self.now.outbound task) }
-        ensures { result ≡ slice_index (list_at self.now.outbound task) edge }
-    {
-        self.outbound.list(task as usize)[edge as usize]
-    }
-
-    /// The channels into a task.
-    pub fn inbound(&self, task: u32) -> &[u32]
-        requires { task < self.now.tasks }
-        ensures { result.now ≡ list_at self.now.inbound task }
-    {
-        self.inbound.list(task as usize)
-    }
-
-    /// The task that a channel leads into.
-    pub fn receiver(&self, channel: u32) -> u32
-        requires { channel < length self.now.into }
-        ensures { result ≡ slice_index self.now.into channel }
-    {
-        self.into.as_slice()[channel as usize]
-    }
-
-    /// By channel, how many edges it may have.
-    pub fn rooms(&self) -> &[u32]
-        ensures value { result.now ≡ self.now.rooms }
-        ensures plan { IsPlan self.now }
-    {
-        self.rooms.as_slice()
     }
 }

@@ -7,7 +7,8 @@ use Rattle.drain_meaning.specs.Drains.{DrainMap}
 use Rattle.drain_meaning.specs.Equations.{orient_of}
 use Rattle.border_channel.specs.declared.edge.Edge.{Edge}
 use Rattle.task_graph.specs.declared.flows.FlowTasks.{FlowTasks}
-use Rattle.plan_graph.specs.Borders.{edge_total, edges_for, no_flow}
+use Rattle.plan_graph.specs.Borders.{edges_for, no_flow}
+use Rattle.plan_graph.specs.Numbered.{count_all}
 
 -- 0 for flow that comes from above, 1 for flow that comes from below
 abbrev pub orient_bit : Orient → ℕ
@@ -25,7 +26,7 @@ kept_borders lists flows = map (λ flow. get_or lists (slot_of flow) []) flows
 -- The transports' edges are among the lists, and they are so many together.
 pub record KeepsBorders (lists : List (List Edge)) (flows : List FlowTasks) (total : ℕ) : Type 0 where
   pub kept : (f : ℕ) → f < length flows → slot_of (get_or flows f no_flow) < length lists
-  pub all : total ≡ edge_total (kept_borders lists flows)
+  pub all : total ≡ count_all (kept_borders lists flows)
 
 -- The lists that were made have the edges of the transports that are kept there.
 pub record AreMade (g : Tiling) (drains : List DrainMap) (lists : List (List Edge)) (made : List Bool) : Type 0 where
