@@ -1,2 +1,11 @@
-mod BorderLemmas
-mod DrainLemmas
+pub mod BorderLemmas
+pub mod DrainLemmas
+pub mod EdgeLemmas
+pub mod JointLemmas
+pub mod NeedLemmas
+pub mod NumberedLemmas
+pub mod PlanLemmas
+pub mod PointLemmas
+pub mod SoundLemmas
+pub mod TaskNumbers
+pub mod TransportLaws

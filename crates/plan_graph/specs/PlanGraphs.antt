@@ -9,6 +9,9 @@ use Rattle.tile_map.specs.declared.tiling.Tiling.{Tiling}
 use Rattle.tile_map.specs.Tiles.{tile_at, tile_count}
 use Rattle.drain_meaning.specs.Drains.{DrainMap}
 use Rattle.border_channel.specs.Edges.{edge_at}
+use Rattle.map_meaning.specs.Limits.{most_block}
+use Rattle.map_meaning.specs.Programs.{IsWellFormed}
+use Rattle.map_meaning.specs.Spans.{IsSpan}
 use Rattle.map_meaning.specs.declared.known.Known.{Known}
 use Rattle.map_meaning.specs.declared.known.Span.{Span}
 use Rattle.map_meaning.specs.declared.program.Program.{Program}
@@ -138,6 +141,14 @@ pub record IsPlan (p : PlanGraphValue) : Type 0 where
   pub plan_tasks : p.tasks ≡ length p.plan.tasks
   pub plan_needs : p.needs ≡ p.plan.needs
   pub plan_flows : p.flows ≡ map (λ t. is_flow_work t.work) p.plan.tasks
+
+-- The graph of the plan of each span of a well-formed program is sound, whatever the tiles are, with drain maps for its transports
+-- that are sound and of its size; and what is kept of its transports is so.
+abbrev pub AreSoundPlans : Type 0
+AreSoundPlans =
+    (program : Program) (s : Span) (g : Tiling) (drains : List DrainMap) →
+    IsWellFormed program → IsSpan program s most_block → HasDrainsOf (span_plan program s g) drains →
+    let p = with_drains s (span_plan program s g) drains in IsSoundGraph (graph_of p) × HasTransports p
 
 -- It is the plan of its span: of this program, over these tiles, with the drain maps that are known.
 pub record IsPlanOf (program : Program) (known : Known) (g : Tiling) (p : PlanGraphValue) : Type 0 where

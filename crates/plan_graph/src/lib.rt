@@ -9,4 +9,4 @@ mod laws;
 pub use borders::Borders;
 pub use build::build_graph;
 pub use graph::PlanGraph;
-pub use laws::transports_have_their_drains;
+pub use laws::{plans_are_sound, transports_have_their_drains};

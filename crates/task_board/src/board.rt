@@ -88,7 +88,7 @@ impl<K: FlowKit> Board<K> {
         ensures { IfOk result (λ board. board ≡ new_board (arc_value plan) (arc_value program) (arc_value known) workers) }
     {
         let tasks = plan.tasks() as usize;
-        let most = 2 * tasks + 4 * plan.edges() as usize + 2 * (workers as usize + 1);
+        let most = 2 * tasks + 4 * plan.all_edges() as usize + 2 * (workers as usize + 1);
         let states = TaskStates::make(alloc, need_counts(alloc, &plan)?, workers)?;
         let tiles = empties(alloc, tasks)?;
         let unread = reader_counts(alloc, &plan)?;
