@@ -17,12 +17,12 @@ pub is_planned : (p : PlanGraphValue) (s : Span) (program : Program) (known : Kn
     IsWellFormed program → IsSpan program s most_block → Knows program s known → g.rows ≡ known.rows → g.cols ≡ known.cols →
     p.span ≡ s → IsPlanOf program known g p → IsPlanned p.plan p.span program known
 is_planned p s program known g formed is knows rows cols span of =
-    let tiling : p.plan.tiling ≡ g = ap (λ (v : PlanValue). v.tiling) of ∙ plan_tiling program p.span g in
+    let tiling : p.plan.tiling ≡ g = ap (λ (v : PlanValue). v.tiling) of.plan ∙ plan_tiling program p.span g in
     record {
       well_formed = formed;
       spans = subst (λ (x : Span). IsSpan program x most_block) (sym span) is;
       knows = subst (λ (x : Span). Knows program x known) (sym span) knows;
-      plans = of ∙ ap (λ (t : Tiling). span_plan program p.span t) (sym tiling);
+      plans = of.plan ∙ ap (λ (t : Tiling). span_plan program p.span t) (sym tiling);
       rows = ap (λ (t : Tiling). t.rows) tiling ∙ rows;
       cols = ap (λ (t : Tiling). t.cols) tiling ∙ cols;
     }

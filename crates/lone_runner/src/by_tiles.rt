@@ -5,7 +5,7 @@ ghost use Rattle.tile_map.specs.Tiles.{tile_count};
 ghost use Rattle.map_meaning.specs.Limits.{most_block};
 ghost use Rattle.map_meaning.specs.Programs.{IsWellFormed};
 ghost use Rattle.map_meaning.specs.Spans.{IsSpan, Knows, stage_of};
-ghost use Rattle.map_meaning.specs.declared.known.Known.{Known as TheKnown};
+ghost use Rattle.plan_graph.specs.Borders.{HasDrainsOf};
 ghost use Rattle.plan_graph.specs.PlanGraphs.{IsLocal, IsPlanOf};
 ghost use Rattle.task_graph.specs.Counts.{span_tasks};
 ghost use Rattle.task_graph.specs.Limits.{most_tasks};
@@ -14,7 +14,7 @@ ghost use Rattle.task_graph.specs.Plans.{span_plan};
 use crate::work::TaskWork;
 use flow_task::FlowKit;
 use map_meaning::{Known, Program, Span, StageEnd};
-use plan_graph::{PlanGraph, build_graph};
+use plan_graph::{PlanGraph, build_graph, transports_have_their_drains};
 use std::alloc::{AllocError, Global};
 use std::sync::Arc;
 use task_board::Board;
@@ -30,16 +30,18 @@ fn planned(
     program: &Program,
     span: Span,
     tiling: &Tiling,
+    known: &Known,
 ) -> Result<PlanGraph, AllocError>
     requires program { IsWellFormed program.now }
     requires span { IsSpan program.now span most_block }
+    requires drains { HasDrainsOf (span_plan program.now span tiling.now) known.now.drains }
     requires local { (span_plan program.now span tiling.now).flows ≡ [] }
     requires few { span_tasks (tile_count tiling.now) program.now span ≤ most_tasks }
     ensures span { IfOk result (λ graph. graph.span ≡ span) }
-    ensures of { IfOk result (λ graph. (known : TheKnown) → IsPlanOf program.now known tiling.now graph) }
+    ensures of { IfOk result (IsPlanOf program.now known.now tiling.now) }
     ensures local { IfOk result IsLocal }
 {
-    match build_graph(alloc, program, span, tiling) {
+    match build_graph(alloc, program, span, tiling, known) {
         Ok(graph) => Ok(graph),
         Err(PlanEnd::TooManyTasks { .. }) => unreachable!(),
         Err(PlanEnd::Memory) => Err(AllocError),
@@ -64,7 +66,8 @@ pub fn by_tiles<K: FlowKit>(
     requires few { span_tasks (tile_count tiling.now) program.now.value span ≤ most_tasks }
     ensures { IfOk result (λ end. end ≡ stage_of program.now.value span known.now.value) }
 {
-    let plan = planned(alloc, program, span, tiling)?;
+    transports_have_their_drains();
+    let plan = planned(alloc, program, span, tiling, known)?;
     let plan = Arc::new(alloc, plan)?;
     let program = Arc::try_clone(program)?;
     let known = Arc::try_clone(known)?;

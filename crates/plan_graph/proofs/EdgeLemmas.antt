@@ -1,9 +1,8 @@
 -- The border edges of a plan's transports.
-use Rattle.std.proofs.Common.{◌≡◌, ◌≢◌, ◌∙◌, ℕ, zero, suc, ◌+◌, ◌*◌, ◌<◌, ◌≤◌, List, [], ◌∷◌, length, get_or, map, refl, sym, ap, subst, arith, inl, inr, Bool, true, false}
-use Rattle.std.specs.Prelude.{◌⊎◌, ◌==◌, ◌&&◌}
+use Rattle.std.proofs.Common.{◌≡◌, ◌≢◌, ◌∙◌, ℕ, ◌*◌, ◌<◌, List, [], length, get_or, refl, sym, ap, subst, arith, inl, inr, Bool, true, false}
+use Rattle.std.specs.Prelude.{◌==◌}
 use Rattle.std.specs.List.{Contains, position_or_len}
 use Rattle.std.proofs.lemmas.Bool.{and_from, and_parts, eq-eqb}
-use Rattle.std.proofs.lemmas.Bool.Decides.{eqb_tells}
 use Rattle.std.proofs.lemmas.List.{get_or-map, get_or_default, length-map}
 use Rattle.std.proofs.lemmas.List.Sums.{passes_at_first, position_or_len_is}
 use Rattle.tile_map.specs.declared.tiling.Tiling.{Tiling}
@@ -14,20 +13,18 @@ use Rattle.drain_meaning.specs.declared.next.Next.TheVariants as next
 use Rattle.drain_meaning.specs.declared.op.Orient.{Orient}
 use Rattle.drain_meaning.specs.declared.op.Orient.TheVariants.{Down, Up}
 use Rattle.drain_meaning.specs.Drains.{DrainMap, next_at}
-use Rattle.drain_meaning.specs.Equations.{orient_of}
 use Rattle.drain_meaning.specs.Paths.{IsSound}
 use Rattle.drain_meaning.specs.Sound.{IsDrain}
 use Rattle.drain_meaning.specs.Transports.{feeders, outlet}
 use Rattle.drain_meaning.proofs.Callers.{cases_directed, directed_within, feeder_feeds, next_directed, tributary_drains}
 use Rattle.border_channel.specs.declared.edge.Edge.{Edge}
-use Rattle.border_channel.specs.Edges.{AreBorderEdges, EdgeComesBefore, HasSizeOf, IsBorderEdge, border_edges_of, edge, edge_at}
+use Rattle.border_channel.specs.Edges.{AreBorderEdges, EdgeComesBefore, IsBorderEdge, edge, edge_at}
 use Rattle.border_channel.specs.Loads.{load_of}
 use Rattle.border_channel.specs.TileFlows.{joins}
 use Rattle.border_channel.proofs.Callers.{edges_listed, load_within, loads_add_up}
-use Rattle.task_graph.specs.declared.flows.FlowTasks.{FlowTasks}
 use Rattle.task_graph.specs.Plans.{PlanValue}
 use Rattle.plan_graph.specs.Borders.{borders_of, drain_at, edges_for, no_flow, orient_at, transport_at}
-use Rattle.plan_graph.specs.Transports.{place_count}
+use Rattle.plan_graph.specs.Transports.{cells_in_map}
 use Rattle.plan_graph.proofs.JointLemmas.{AreInTiles, eq_of, first_place}
 use Rattle.plan_graph.proofs.TaskNumbers.{Fits}
 
@@ -112,7 +109,7 @@ module _ {m : DrainMap} {g : Tiling} {o : Orient} {edges : List Edge} (are : Are
 -- the border edges of a transport with a sound drain map
 pub record IsBordered (plan : PlanValue) (drains : List DrainMap) (f : ℕ) (edges : List Edge) : Type 0 where
   pub drain : IsDrain (drain_at plan drains f)
-  pub size : length (drain_at plan drains f).codes ≡ place_count plan.tiling
+  pub size : length (drain_at plan drains f).codes ≡ cells_in_map plan.tiling
   pub are : AreBorderEdges (drain_at plan drains f) plan.tiling (orient_at plan f) edges
 
 module _ {plan : PlanValue} {drains : List DrainMap} (fits : Fits plan drains) where
@@ -136,8 +133,8 @@ module _ {plan : PlanValue} {drains : List DrainMap} (fits : Fits plan drains) w
 pub record GoesWithin (plan : PlanValue) (drains : List DrainMap) (f : ℕ) (e : Edge) : Type 0 where
   pub feeds : Contains (feeders (orient_at plan f) (drain_at plan drains f) e.target) e.source
   pub apart : tile_at plan.tiling e.source ≢ tile_at plan.tiling e.target
-  pub source : e.source < place_count plan.tiling
-  pub target : e.target < place_count plan.tiling
+  pub source : e.source < cells_in_map plan.tiling
+  pub target : e.target < cells_in_map plan.tiling
   pub source_tile : tile_at plan.tiling e.source < tile_count plan.tiling
   pub target_tile : tile_at plan.tiling e.target < tile_count plan.tiling
 
@@ -151,8 +148,8 @@ module _ {plan : PlanValue} {drains : List DrainMap} (fits : Fits plan drains) w
       let size = b.size in
       let low = cells.source in
       let high = cells.target in
-      let source : e.source < place_count plan.tiling = omega arith in
-      let target : e.target < place_count plan.tiling = omega arith in
+      let source : e.source < cells_in_map plan.tiling = omega arith in
+      let target : e.target < cells_in_map plan.tiling = omega arith in
       record {
         feeds = is.feeds;
         apart = is.apart;

@@ -1,5 +1,5 @@
 -- What a plan with its graph keeps.
-use Rattle.std.proofs.Common.{◌≡◌, ◌∙◌, ℕ, ◌^◌, ◌<◌, ◌≤◌, List, [], length, get_or, map, refl, sym, ap, subst, arith, false}
+use Rattle.std.proofs.Common.{◌≡◌, ℕ, ◌^◌, ◌<◌, ◌≤◌, List, [], length, get_or, map, refl, sym, ap, subst, arith, false}
 use Rattle.std.proofs.lemmas.List.{get_or-map, length-map}
 use Rattle.core_model.specs.Graphs.{IsSoundGraph}
 use Rattle.number_lists.specs.Lists.{numbers_in}
@@ -21,7 +21,7 @@ use Rattle.task_graph.proofs.Callers.{count_tasks, plan_no_flow}
 use Rattle.plan_graph.specs.Borders.{HasDrainsOf, borders_of}
 use Rattle.plan_graph.specs.Graphs.{core_graph, is_flow_work}
 use Rattle.plan_graph.specs.Numbered.{count_all}
-use Rattle.plan_graph.specs.PlanGraphs.{AreSoundPlans, IsLocal, IsPlan, PlanGraphValue, graph_of, list_at, with_drains}
+use Rattle.plan_graph.specs.PlanGraphs.{AreSoundPlans, IsLocal, IsPlan, graph_of, list_at, with_drains}
 use Rattle.plan_graph.proofs.NeedLemmas.{each_index, not_flow}
 use Rattle.plan_graph.proofs.SoundLemmas.{graph_is_sound}
 use Rattle.plan_graph.proofs.TaskNumbers.{Fits, plan_fits}

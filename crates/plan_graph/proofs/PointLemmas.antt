@@ -1,37 +1,35 @@
 -- Points, border edges and channels of the graph of a plan by their numbers.
-use Rattle.std.proofs.Common.{◌≡◌, ◌∙◌, ℕ, suc, ◌+◌, ◌*◌, ◌/◌, ◌%◌, ◌<◌, ◌≤◌, List, [], length, get_or, map, refl, sym, ap, subst, arith}
-use Rattle.std.proofs.Math.Nat.{div-lt_iff_lt-mul, mod-lt}
+use Rattle.std.proofs.Common.{◌≡◌, ◌∙◌, ℕ, ◌+◌, ◌*◌, ◌/◌, ◌%◌, ◌<◌, List, [], length, get_or, sym, ap, subst, arith}
 use Rattle.std.proofs.lemmas.List.{get_or-map, length-map}
 use Rattle.std.proofs.lemmas.Nat.{div-mul-add, mod-mul-add}
 use Rattle.core_model.specs.Graphs.{from_task, into_task}
 use Rattle.tile_map.specs.declared.tiling.Tiling.{Tiling}
-use Rattle.tile_map.specs.Tiles.{tile_at, tile_count}
 use Rattle.drain_meaning.specs.Drains.{DrainMap}
 use Rattle.border_channel.specs.declared.edge.Edge.{Edge}
-use Rattle.border_channel.specs.Edges.{edge, edge_at}
+use Rattle.border_channel.specs.Edges.{edge_at}
 use Rattle.task_graph.specs.Plans.{PlanValue}
 use Rattle.plan_graph.specs.Borders.{borders_of, transport_at}
 use Rattle.plan_graph.specs.Graphs.{border_at, core_graph, joints_in, owner_of}
 use Rattle.plan_graph.specs.Joints.{joint_from, joint_into, joint_of, joints_of, pair_of}
 use Rattle.plan_graph.specs.Numbered.{count_all, count_before, list_of_number, place_of_number}
-use Rattle.plan_graph.specs.Transports.{place_count, point_at}
+use Rattle.plan_graph.specs.Transports.{cells_in_map, point_at}
 use Rattle.plan_graph.proofs.EdgeLemmas.{in_tiles, many_borders}
-use Rattle.plan_graph.proofs.JointLemmas.{HasEdge, IsJoined, has_edge, is_joint}
-use Rattle.plan_graph.proofs.NumberedLemmas.{IsNumbered, StandsIn, is_numbered, stands_in}
+use Rattle.plan_graph.proofs.JointLemmas.{has_edge, is_joint}
+use Rattle.plan_graph.proofs.NumberedLemmas.{is_numbered, stands_in}
 use Rattle.plan_graph.proofs.TaskNumbers.{Fits}
 
 -- ---- points
 
-pub some_places : (g : Tiling) → 0 < place_count g
+pub some_places : (g : Tiling) → 0 < cells_in_map g
 some_places g = positive g.rows g.cols g.sides.some_rows g.sides.some_cols
   where
     positive : (m n : ℕ) → 0 < m → 0 < n → 0 < m * n
     positive m n a b = grind arith
 
 -- what is told of a point by its transport and cell
-pub at_point : {A : Type 0} (g : Tiling) (of : ℕ → ℕ → A) (f c : ℕ) → c < place_count g → of (point_at g f c / place_count g) (point_at g f c % place_count g) ≡ of f c
+pub at_point : {A : Type 0} (g : Tiling) (of : ℕ → ℕ → A) (f c : ℕ) → c < cells_in_map g → of (point_at g f c / cells_in_map g) (point_at g f c % cells_in_map g) ≡ of f c
 at_point g of f c below =
-    ap (λ (n : ℕ). of n (point_at g f c % place_count g)) (div-mul-add f (place_count g) c below) ∙ ap (of f) (mod-mul-add f (place_count g) c below)
+    ap (λ (n : ℕ). of n (point_at g f c % cells_in_map g)) (div-mul-add f (cells_in_map g) c below) ∙ ap (of f) (mod-mul-add f (cells_in_map g) c below)
 
 -- ---- border edges
 

@@ -1,11 +1,10 @@
 -- The graph of a plan is sound.
-use Rattle.std.proofs.Common.{◌≡◌, ◌≢◌, ◌∙◌, ℕ, zero, suc, ◌+◌, ◌*◌, ◌/◌, ◌%◌, ◌<◌, ◌≤◌, List, [], ◌∷◌, length, get_or, map, refl, sym, ap, subst, arith, inl, inr, Bool, true, false}
-use Rattle.std.specs.Prelude.{◌⊎◌, ◌==◌, if◌then◌else◌}
+use Rattle.std.proofs.Common.{◌≡◌, ◌≢◌, ◌∙◌, ℕ, zero, suc, ◌+◌, ◌*◌, ◌/◌, ◌%◌, ◌<◌, ◌≤◌, List, [], ◌∷◌, length, get_or, map, sym, ap, subst, arith, inl, inr}
+use Rattle.std.specs.Prelude.{◌==◌}
 use Rattle.std.specs.List.{Contains, position_or_len}
 use Rattle.std.proofs.Math.Nat.{div-add-mod', div-lt_iff_lt-mul, mod-lt}
 use Rattle.std.proofs.lemmas.Bool.Decides.{eqb_tells}
-use Rattle.core_model.specs.Graphs.{Each, Feed, FeedsWell, Graph, In, IsSoundGraph, JoinsPoints, JoinsTasks, NeedsWell, from_task, inside, into_task, over_edge}
-use Rattle.tile_map.specs.declared.tiling.Tiling.{Tiling}
+use Rattle.core_model.specs.Graphs.{Each, Feed, FeedsWell, In, IsSoundGraph, JoinsPoints, JoinsTasks, NeedsWell, from_task, inside, into_task, over_edge}
 use Rattle.tile_map.specs.Tiles.{tile_at, tile_count}
 use Rattle.tile_map.proofs.TileLemmas.{tile_below}
 use Rattle.drain_meaning.specs.Drains.{DrainMap}
@@ -20,8 +19,8 @@ use Rattle.task_graph.specs.Plans.{PlanValue, needs_at, operation_code, task_at}
 use Rattle.plan_graph.specs.Borders.{borders_of, drain_at, orient_at, transport_at}
 use Rattle.plan_graph.specs.Graphs.{border_at, core_graph, feed_from, feeds_of, is_flow_work, owner_of}
 use Rattle.plan_graph.specs.Numbered.{count_all, count_before, list_of_number}
-use Rattle.plan_graph.specs.Transports.{place_count, point_at, task_transport}
-use Rattle.plan_graph.proofs.EdgeLemmas.{FeedsWithin, GoesWithin, bordered, edge_place, feeds_within, goes_within, is_placed}
+use Rattle.plan_graph.specs.Transports.{cells_in_map, point_at, task_transport}
+use Rattle.plan_graph.proofs.EdgeLemmas.{FeedsWithin, bordered, edge_place, feeds_within, goes_within, is_placed}
 use Rattle.plan_graph.proofs.JointLemmas.{ne_of, pair_below}
 use Rattle.plan_graph.proofs.NeedLemmas.{codes_ascend, each_index, need_codes}
 use Rattle.plan_graph.proofs.NumberedLemmas.{choice_no, choice_yes}
@@ -40,13 +39,13 @@ load_at plan drains f c = load_of (orient_at plan f) (drain_at plan drains f) c
 
 module _ {plan : PlanValue} {drains : List DrainMap} (fits : Fits plan drains) where
   -- a cell of the same tile
-  feed_inside : (x u : ℕ) → x / place_count plan.tiling < length plan.flows → u < place_count plan.tiling → tile_at plan.tiling u ≡ tile_at plan.tiling (x % place_count plan.tiling) →
-      load_at plan drains (x / place_count plan.tiling) u < load_at plan drains (x / place_count plan.tiling) (x % place_count plan.tiling) →
-      FeedsWell (core_graph plan drains) x (inside (point_at plan.tiling (x / place_count plan.tiling) u))
+  feed_inside : (x u : ℕ) → x / cells_in_map plan.tiling < length plan.flows → u < cells_in_map plan.tiling → tile_at plan.tiling u ≡ tile_at plan.tiling (x % cells_in_map plan.tiling) →
+      load_at plan drains (x / cells_in_map plan.tiling) u < load_at plan drains (x / cells_in_map plan.tiling) (x % cells_in_map plan.tiling) →
+      FeedsWell (core_graph plan drains) x (inside (point_at plan.tiling (x / cells_in_map plan.tiling) u))
   unfolding core_graph
   feed_inside x u within below same less =
       let g = plan.tiling in
-      let places = place_count g in
+      let places = cells_in_map g in
       let f = x / places in (
         pair_below f u (length plan.flows) places within below,
         at_point g (owner_of plan) f u below ∙ ap (λ (t : ℕ). (transport_at plan f).first + t) same,
@@ -54,15 +53,15 @@ module _ {plan : PlanValue} {drains : List DrainMap} (fits : Fits plan drains) w
       )
 
   -- a border edge
-  feed_over : (x u : ℕ) → x / place_count plan.tiling < length plan.flows → u < place_count plan.tiling → tile_at plan.tiling u ≢ tile_at plan.tiling (x % place_count plan.tiling) →
-      Contains (feeders (orient_at plan (x / place_count plan.tiling)) (drain_at plan drains (x / place_count plan.tiling)) (x % place_count plan.tiling)) u →
-      load_at plan drains (x / place_count plan.tiling) u < load_at plan drains (x / place_count plan.tiling) (x % place_count plan.tiling) →
-      FeedsWell (core_graph plan drains) x (over_edge (count_before (borders_of plan drains) (x / place_count plan.tiling)
-      + position_or_len (joins u (x % place_count plan.tiling)) (get_or (borders_of plan drains) (x / place_count plan.tiling) [])))
+  feed_over : (x u : ℕ) → x / cells_in_map plan.tiling < length plan.flows → u < cells_in_map plan.tiling → tile_at plan.tiling u ≢ tile_at plan.tiling (x % cells_in_map plan.tiling) →
+      Contains (feeders (orient_at plan (x / cells_in_map plan.tiling)) (drain_at plan drains (x / cells_in_map plan.tiling)) (x % cells_in_map plan.tiling)) u →
+      load_at plan drains (x / cells_in_map plan.tiling) u < load_at plan drains (x / cells_in_map plan.tiling) (x % cells_in_map plan.tiling) →
+      FeedsWell (core_graph plan drains) x (over_edge (count_before (borders_of plan drains) (x / cells_in_map plan.tiling)
+      + position_or_len (joins u (x % cells_in_map plan.tiling)) (get_or (borders_of plan drains) (x / cells_in_map plan.tiling) [])))
   unfolding core_graph
   feed_over x u within below apart feeds less =
       let g = plan.tiling in
-      let places = place_count g in
+      let places = cells_in_map g in
       let f = x / places in
       let c = x % places in
       let borders = borders_of plan drains in
@@ -80,12 +79,12 @@ module _ {plan : PlanValue} {drains : List DrainMap} (fits : Fits plan drains) w
             (subst (λ (n : ℕ). n < load_at plan drains f c) (sym (at_point g (load_at plan drains) f u below)) less),
       )
 
-  feed_well : (x u : ℕ) → x / place_count plan.tiling < length plan.flows →
-      Contains (feeders (orient_at plan (x / place_count plan.tiling)) (drain_at plan drains (x / place_count plan.tiling)) (x % place_count plan.tiling)) u →
-      FeedsWell (core_graph plan drains) x (feed_from plan.tiling (borders_of plan drains) (x / place_count plan.tiling) (x % place_count plan.tiling) u)
+  feed_well : (x u : ℕ) → x / cells_in_map plan.tiling < length plan.flows →
+      Contains (feeders (orient_at plan (x / cells_in_map plan.tiling)) (drain_at plan drains (x / cells_in_map plan.tiling)) (x % cells_in_map plan.tiling)) u →
+      FeedsWell (core_graph plan drains) x (feed_from plan.tiling (borders_of plan drains) (x / cells_in_map plan.tiling) (x % cells_in_map plan.tiling) u)
   feed_well x u within feeds =
       let g = plan.tiling in
-      let places = place_count g in
+      let places = cells_in_map g in
       let f = x / places in
       let c = x % places in
       let b = bordered fits f within in
@@ -101,17 +100,17 @@ module _ {plan : PlanValue} {drains : List DrainMap} (fits : Fits plan drains) w
         | inr other ↦ subst (FeedsWell (core_graph plan drains) x) (sym (choice_no (tile_at g u == tile_at g c) d e other.0)) (feed_over x u within low other.1 feeds less)
       ]
 
-  fed : (x : ℕ) → x < length plan.flows * place_count plan.tiling → Each (FeedsWell (core_graph plan drains) x) (feeds_of plan drains (x / place_count plan.tiling) (x % place_count plan.tiling))
+  fed : (x : ℕ) → x < length plan.flows * cells_in_map plan.tiling → Each (FeedsWell (core_graph plan drains) x) (feeds_of plan drains (x / cells_in_map plan.tiling) (x % cells_in_map plan.tiling))
   fed x below =
-      let places = place_count plan.tiling in
+      let places = cells_in_map plan.tiling in
       let within : x / places < length plan.flows = (div-lt_iff_lt-mul (some_places plan.tiling)).1 below in
       each_fed (FeedsWell (core_graph plan drains) x) (feed_from plan.tiling (borders_of plan drains) (x / places) (x % places))
       (feeders (orient_at plan (x / places)) (drain_at plan drains (x / places)) (x % places)) (λ u has. feed_well x u within has)
 
-  owned : (x : ℕ) → x < length plan.flows * place_count plan.tiling → owner_of plan (x / place_count plan.tiling) (x % place_count plan.tiling) < length plan.tasks
+  owned : (x : ℕ) → x < length plan.flows * cells_in_map plan.tiling → owner_of plan (x / cells_in_map plan.tiling) (x % cells_in_map plan.tiling) < length plan.tasks
   owned x below =
       let g = plan.tiling in
-      let places = place_count g in
+      let places = cells_in_map g in
       let within : x / places < length plan.flows = (div-lt_iff_lt-mul (some_places g)).1 below in
       (fits.stands (x / places) within).within (tile_at g (x % places)) (tile_below g (x % places) (mod-lt x (some_places g)))
 
@@ -177,7 +176,7 @@ module _ {plan : PlanValue} {drains : List DrainMap} (fits : Fits plan drains) w
   unfolding core_graph
   joins_points f k within below =
       let g = plan.tiling in
-      let places = place_count g in
+      let places = cells_in_map g in
       let borders = borders_of plan drains in
       let b = edge_at (get_or borders f []) k in
       let e = count_before borders f + k in

@@ -1,11 +1,9 @@
 -- What is kept of a plan's transports.
-use Rattle.std.proofs.Common.{◌≡◌, ◌∙◌, ℕ, ◌+◌, ◌<◌, ◌≤◌, List, [], length, get_or, refl, sym, ap, subst, arith, inl, inr, true}
+use Rattle.std.proofs.Common.{◌≡◌, ◌∙◌, ℕ, ◌+◌, ◌<◌, List, [], length, get_or, refl, sym, ap, subst, arith, inl, inr, true}
 use Rattle.std.specs.Prelude.{◌⊎◌}
 use Rattle.std.proofs.lemmas.Bool.{cases_lt}
 use Rattle.std.proofs.lemmas.List.{get_or_past}
-use Rattle.core_model.specs.Graphs.{Graph, edge_at as edge_number, from_task, into_task}
-use Rattle.tile_map.specs.declared.tiling.Tiling.{Tiling}
-use Rattle.tile_map.specs.Tiles.{tile_at, tile_count}
+use Rattle.core_model.specs.Graphs.{edge_at as edge_number, from_task, into_task}
 use Rattle.drain_meaning.specs.Drains.{DrainMap}
 use Rattle.border_channel.specs.declared.edge.Edge.{Edge}
 use Rattle.border_channel.specs.Edges.{HasSizeOf, edge_at}
@@ -14,9 +12,9 @@ use Rattle.task_graph.specs.declared.task.Task.{Task}
 use Rattle.task_graph.specs.Plans.{AreOfOne, PlanValue, task_at}
 use Rattle.plan_graph.specs.Borders.{AreDrained, HasDrainsOf, borders_of, drain_of, no_drain_map, transport_at}
 use Rattle.plan_graph.specs.Graphs.{core_graph, feeds_of, is_flow_work, owner_of}
-use Rattle.plan_graph.specs.Numbered.{count_all, count_before}
+use Rattle.plan_graph.specs.Numbered.{count_before}
 use Rattle.plan_graph.specs.PlanGraphs.{HasTransports, IsChannelOf, IsEdgeOf, IsOfTransport, graph_of, with_drains}
-use Rattle.plan_graph.specs.Transports.{place_count, point_at, task_edges, task_transport}
+use Rattle.plan_graph.specs.Transports.{task_edges, task_transport}
 use Rattle.plan_graph.proofs.EdgeLemmas.{goes_within, many_borders}
 use Rattle.plan_graph.proofs.PointLemmas.{ChannelIs, EdgeIs, at_point, channel_is, edge_number_is, edge_of_number}
 use Rattle.plan_graph.proofs.SoundLemmas.{channel_in, is_joining, owner_transport}

@@ -16,7 +16,7 @@ use Rattle.task_graph.specs.Plans.{PlanValue, needs_at, operation_code, task_at}
 use Rattle.plan_graph.specs.Borders.{borders_of, drain_at, orient_at, transport_at}
 use Rattle.plan_graph.specs.Joints.{joint_from, joint_into, joint_of, joints_of, pair_of}
 use Rattle.plan_graph.specs.Numbered.{count_all, count_before, list_of_number, place_of_number}
-use Rattle.plan_graph.specs.Transports.{place_count, point_at, task_transport}
+use Rattle.plan_graph.specs.Transports.{cells_in_map, point_at, task_transport}
 
 -- the task is one of a transport
 abbrev pub is_flow_work : Work → Bool
@@ -51,7 +51,7 @@ joints_in g borders = map (joints_of g) borders
 unfoldable pub core_graph : PlanValue → List DrainMap → Graph
 core_graph plan drains =
     let g = plan.tiling in
-    let places = place_count g in
+    let places = cells_in_map g in
     let borders = borders_of plan drains in
     let joints = joints_in g borders in
     record {

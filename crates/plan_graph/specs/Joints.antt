@@ -21,9 +21,10 @@ joints_of g edges = filter (is_joined g edges) (range_with_len 0 (tile_count g *
 abbrev pub joint_of : Tiling → List Edge → ℕ → ℕ
 joint_of g edges pair = position_or_len (λ p. p == pair) (joints_of g edges)
 
--- the tile that the joint with this number leads from, and the one that it leads into
+-- the tile that the joint with this number leads from
 abbrev pub joint_from : Tiling → List ℕ → ℕ → ℕ
 joint_from g joints j = get_or joints j 0 / tile_count g
 
+-- the tile that it leads into
 abbrev pub joint_into : Tiling → List ℕ → ℕ → ℕ
 joint_into g joints j = get_or joints j 0 % tile_count g

@@ -1,12 +1,12 @@
 -- A plan with its graph, and what is kept of them.
-use Rattle.std.specs.Prelude.{◌≡◌, ◌⊎◌, ℕ, ◌+◌, ◌*◌, ◌<◌, ◌≤◌, ◌^◌, ◌==◌}
+use Rattle.std.specs.Prelude.{◌≡◌, ◌⊎◌, ℕ, ◌+◌, ◌*◌, ◌<◌, ◌^◌, ◌==◌}
 use Rattle.std.specs.Prelude.{Bool, true, false, List, [], length, map, slice_index_or}
 use Rattle.std.specs.List.{filter, range_with_len}
 use Rattle.core_model.specs.Counts.{flag, sum_below}
 use Rattle.core_model.specs.Graphs.{Each, Graph, IsSoundGraph, edge_at as edge_number, from_task, into_task}
 use Rattle.number_lists.specs.Turned.{times, turned_of}
 use Rattle.tile_map.specs.declared.tiling.Tiling.{Tiling}
-use Rattle.tile_map.specs.Tiles.{tile_at, tile_count}
+use Rattle.tile_map.specs.Tiles.{tile_count}
 use Rattle.drain_meaning.specs.Drains.{DrainMap}
 use Rattle.border_channel.specs.Edges.{edge_at}
 use Rattle.map_meaning.specs.Limits.{most_block}
@@ -19,7 +19,7 @@ use Rattle.task_graph.specs.Plans.{AreOfOne, PlanValue, span_plan, task_at}
 use Rattle.plan_graph.specs.Borders.{HasDrainsOf, borders_of, transport_at}
 use Rattle.plan_graph.specs.Graphs.{core_graph, feeds_of, is_flow_work, owner_of}
 use Rattle.plan_graph.specs.Numbered.{count_all}
-use Rattle.plan_graph.specs.Transports.{place_count, point_at, task_edges, task_transport}
+use Rattle.plan_graph.specs.Transports.{cells_in_map, point_at, task_edges, task_transport}
 
 -- A plan of a span, with the drain maps that are known to it: how many tasks there are, with what each reads and who reads it, and
 -- which are flow tasks; and how many border edges all transports have together.
@@ -110,9 +110,9 @@ pub record HasTransports (p : PlanGraphValue) : Type 0 where
       (t < p.tasks) × ((graph_of p).is_flow t ≡ true) × IsOfTransport p.plan t f tile
   pub alike : (t u : ℕ) → t < p.tasks → u < p.tasks → (graph_of p).is_flow t ≡ true → (graph_of p).is_flow u ≡ true
       → task_transport p.plan t ≡ task_transport p.plan u → AreOfOne (task_at p.plan t) (task_at p.plan u)
-  pub all_points : (graph_of p).points ≡ length p.plan.flows * place_count p.plan.tiling
-  pub owned : (f c : ℕ) → c < place_count p.plan.tiling → (graph_of p).owner (point_at p.plan.tiling f c) ≡ owner_of p.plan f c
-  pub fed : (f c : ℕ) → c < place_count p.plan.tiling → (graph_of p).feeds (point_at p.plan.tiling f c) ≡ feeds_of p.plan p.drains f c
+  pub all_points : (graph_of p).points ≡ length p.plan.flows * cells_in_map p.plan.tiling
+  pub owned : (f c : ℕ) → c < cells_in_map p.plan.tiling → (graph_of p).owner (point_at p.plan.tiling f c) ≡ owner_of p.plan f c
+  pub fed : (f c : ℕ) → c < cells_in_map p.plan.tiling → (graph_of p).feeds (point_at p.plan.tiling f c) ≡ feeds_of p.plan p.drains f c
   pub edge : (t e : ℕ) → t < p.tasks → e < length (task_edges p.plan p.drains t) → IsEdgeOf p t e
   pub numbered : (t e : ℕ) → edge_number (graph_of p) t e < (graph_of p).edges
       → (from_task (graph_of p) (edge_number (graph_of p) t e) ≡ t) ⊎ (into_task (graph_of p) (edge_number (graph_of p) t e) ≡ t)

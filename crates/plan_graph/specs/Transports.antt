@@ -30,10 +30,10 @@ task_edges_into plan drains t = edges_into plan.tiling (task_at plan t).tile (ta
 abbrev pub task_edges_out_of : PlanValue → List DrainMap → ℕ → List ℕ
 task_edges_out_of plan drains t = edges_out_of plan.tiling (task_at plan t).tile (task_edges plan drains t)
 
--- how many places a map has
-abbrev pub place_count : Tiling → ℕ
-place_count g = g.rows * g.cols
+-- how many cells a map has
+abbrev pub cells_in_map : Tiling → ℕ
+cells_in_map g = g.rows * g.cols
 
 -- the point of a cell of the transport with this number
 abbrev pub point_at : Tiling → ℕ → ℕ → ℕ
-point_at g f c = f * place_count g + c
+point_at g f c = f * cells_in_map g + c

@@ -1,4 +1,4 @@
-use Rattle.std.proofs.Common.{◌∙◌, ap, arith, length, List, [], subst, sym}
+use Rattle.std.proofs.Common.{◌∙◌, ap, arith, List, [], subst, sym}
 use Rattle.std.specs.Prelude.{◌≡◌}
 use Rattle.border_channel.specs.declared.edge.Edge.{Edge}
 use Rattle.task_graph.specs.Plans.{PlanValue}
