@@ -1,4 +1,5 @@
 pub mod BorderLemmas
+pub mod Callers
 pub mod DrainLemmas
 pub mod EdgeLemmas
 pub mod JointLemmas
@@ -8,4 +9,5 @@ pub mod PlanLemmas
 pub mod PointLemmas
 pub mod SoundLemmas
 pub mod TaskNumbers
+pub mod TaskLemmas
 pub mod TransportLaws
