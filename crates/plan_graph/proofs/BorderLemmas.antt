@@ -22,7 +22,7 @@ bits_same Down Up m n e = absurd (omega arith)
 bits_same Up Down m n e = absurd (omega arith)
 bits_same Up Up m n e = (omega arith, refl)
 
-slot_same : (g : Tiling) (drains : List DrainMap) (a b : FlowTasks) → slot_of a ≡ slot_of b → edges_for g drains a ≡ edges_for g drains b
+pub slot_same : (g : Tiling) (drains : List DrainMap) (a b : FlowTasks) → slot_of a ≡ slot_of b → edges_for g drains a ≡ edges_for g drains b
 slot_same g drains a b e =
     let same = bits_same (orient_of a.op) (orient_of b.op) a.drain b.drain e in
     ap (λ (n : ℕ). border_edges_of (get_or drains n no_drain_map) g (orient_of a.op)) same.0

@@ -49,7 +49,7 @@ module _ (s : Span) (plan : PlanValue) (drains : List DrainMap) where
   sound_graph fits = graph_is_sound fits
 
   -- a plan that reads few, with few border edges, keeps what a plan with its graph is to keep
-  fitting_keeps : Fits plan drains → length plan.tasks ≤ most_tasks → numbers_in plan.needs ≤ most_needs → count_all (borders_of plan drains) < 2 ^ 32 → IsPlan (with_drains s plan drains)
+  pub fitting_keeps : Fits plan drains → length plan.tasks ≤ most_tasks → numbers_in plan.needs ≤ most_needs → count_all (borders_of plan drains) < 2 ^ 32 → IsPlan (with_drains s plan drains)
   fitting_keeps fits few few_needs few_edges =
       let count = length plan.tasks in
       let turned = turned_are_turned count plan.needs in

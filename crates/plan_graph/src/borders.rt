@@ -1,6 +1,6 @@
 //! The border edges of a plan's transports.
 
-ghost use Rattle.std.specs.Prelude.{◌≡◌, ◌≤◌, ◌<◌, ◌+◌, ◌*◌, ℕ, [], true, false, get_or, length, map, replicate, IfOk, IfSome, OnOk};
+ghost use Rattle.std.specs.Prelude.{◌≡◌, ◌≤◌, ◌<◌, ◌+◌, ◌*◌, ◌^◌, ℕ, [], true, false, get_or, length, map, replicate, IfOk, IfSome, OnOk};
 ghost use Rattle.drain_meaning.specs.Equations.{orient_of};
 ghost use Rattle.plan_graph.specs.Borders.{AreDrained, IsDrained, borders_of, edges_for, no_flow};
 ghost use Rattle.plan_graph.specs.Numbered.{count_all};
@@ -45,8 +45,8 @@ fn orient_of(op: FlowOp) -> Orient
     }
 }
 
-// Where the edges of a transport are kept.
-fn slot(flow: FlowTasks) -> usize
+/// Where the edges of a transport are kept.
+pub(crate) fn slot(flow: FlowTasks) -> usize
     ensures { result ≡ slot_of flow }
 {
     let drain = 2 * flow.drain as usize;
@@ -147,7 +147,8 @@ impl Borders {
     /// The border edges of the transports of a plan.
     pub fn make(alloc: Global, known: &Known, plan: &Plan) -> Result<Borders, AllocError>
         requires { AreDrained plan.now.tiling known.now.drains plan.now.flows }
-        ensures { IfOk result (λ borders. borders ≡ borders_of plan.now known.now.drains) }
+        ensures are { IfOk result (λ borders. borders ≡ borders_of plan.now known.now.drains) }
+        ensures few { IfOk result (λ borders. count_all borders < 2 ^ 32) }
     {
         let lists = made_lists(alloc, known, plan.tiling(), plan.flows())?;
         let flows = Items::from_slice(alloc, plan.flows())?;

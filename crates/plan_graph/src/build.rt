@@ -1,4 +1,4 @@
-ghost use Rattle.std.specs.Prelude.{◌≡◌, ◌≤◌, [], IfErr, IfOk, length, take};
+ghost use Rattle.std.specs.Prelude.{◌≡◌, ◌≤◌, [], IfErr, IfOk};
 ghost use Rattle.tile_map.specs.Tiles.{tile_count};
 ghost use Rattle.map_meaning.specs.Limits.{most_block};
 ghost use Rattle.map_meaning.specs.Programs.{IsWellFormed};
@@ -8,9 +8,14 @@ ghost use Rattle.task_graph.specs.Ends.{IsEndAt};
 ghost use Rattle.task_graph.specs.Limits.{most_tasks};
 ghost use Rattle.task_graph.specs.Plans.{span_plan};
 ghost use Rattle.plan_graph.specs.Borders.{HasDrainsOf};
-ghost use Rattle.plan_graph.specs.PlanGraphs.{IsLocal, IsPlan, IsPlanOf, with_drains};
+ghost use Rattle.plan_graph.specs.PlanGraphs.{IsLocal, IsPlanOf, with_drains};
+ghost use Rattle.plan_graph.specs.inside.Kept.{CanKeep};
 
+use crate::borders::Borders;
+use crate::channels::channels_of;
 use crate::graph::PlanGraph;
+use crate::joined::made_joints;
+use crate::transports::transports_of;
 use map_meaning::{Known, Program, SharedDrain, Span};
 use sqlite_items::Items;
 use std::alloc::{AllocError, Global};
@@ -28,27 +33,28 @@ fn shared_drains(alloc: Global, drains: &[SharedDrain]) -> Result<Items<SharedDr
     Ok(shared)
 }
 
-// A plan that has no border edges, with the drain maps that are known.
-fn without_edges(
-    alloc: Global,
-    span: Span,
-    plan: Plan,
-    known: &Known,
-) -> Result<PlanGraph, AllocError>
-    requires local { plan.flows ≡ [] }
-    requires plan { IsPlan (with_drains span plan known.now.drains) }
+// The plan with its graph, and with the drain maps that are known.
+fn with_graph(alloc: Global, span: Span, plan: Plan, known: &Known) -> Result<PlanGraph, AllocError>
+    requires { CanKeep span plan known.now.drains }
     ensures { IfOk result (λ graph. graph ≡ with_drains span plan known.now.drains) }
 {
     let drains = shared_drains(alloc, known.drains.as_slice())?;
+    let borders = Borders::make(alloc, known, &plan)?;
+    let joints = made_joints(alloc, known, &plan, &borders)?;
+    let channels = channels_of(alloc, plan.flows(), &joints)?;
+    let transports = transports_of(alloc, &plan)?;
     Ok(PlanGraph {
         span,
         plan,
         drains,
-        edges: 0,
+        borders,
+        joints,
+        channels,
+        transports,
     })
 }
 
-/// The plan of a span without transports, with its graph.
+/// The plan of a span with its graph.
 pub fn build_graph(
     alloc: Global,
     program: &Program,
@@ -59,14 +65,13 @@ pub fn build_graph(
     requires program { IsWellFormed program.now }
     requires span { IsSpan program.now span most_block }
     requires drains { HasDrainsOf (span_plan program.now span tiling.now) known.now.drains }
-    requires local { (span_plan program.now span tiling.now).flows ≡ [] }
     ensures plan { IfOk result (λ graph. (span_tasks (tile_count tiling.now) program.now span ≤ most_tasks) × (graph.span ≡ span)) }
     ensures of { IfOk result (IsPlanOf program.now known.now tiling.now) }
-    ensures local { IfOk result IsLocal }
+    ensures local { (span_plan program.now span tiling.now).flows ≡ [] → IfOk result IsLocal }
     ensures end { IfErr result (IsEndAt (span_tasks (tile_count tiling.now) program.now span)) }
 {
     let plan = build_plan(alloc, program, span, tiling)?;
-    match without_edges(alloc, span, plan, known) {
+    match with_graph(alloc, span, plan, known) {
         Ok(graph) => Ok(graph),
         Err(_) => Err(PlanEnd::Memory),
     }

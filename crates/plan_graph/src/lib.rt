@@ -3,8 +3,13 @@
 
 mod borders;
 mod build;
+mod channels;
 mod graph;
+mod joined;
+mod joints;
 mod laws;
+mod places;
+mod transports;
 
 pub use borders::Borders;
 pub use build::build_graph;

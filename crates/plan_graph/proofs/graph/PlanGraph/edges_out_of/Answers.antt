@@ -1,0 +1,16 @@
+use Rattle.std.proofs.Common.{arith}
+use Rattle.plan_graph.specs.PlanGraphs.{PlanGraphValue}
+use Rattle.plan_graph.specs.inside.Kept.{border_of}
+use Rattle.plan_graph.proofs.AccessLemmas.{edges_out_of_tile, tiles_there}
+use Rattle.plan_graph.proofs.graph.PlanGraph.edges_out_of.Goals as goal
+
+pub list-requires : goal.list-requires
+list-requires c =
+    let p : PlanGraphValue = c.args.self.now in
+    let many = (tiles_there p.plan.tiling (border_of p c.transport.result) c.joints.result.now c.joints.ensures).0 in
+    let below = c.tile-tile.ensures.below in
+    omega arith
+
+pub returns : goal.returns
+returns c =
+    edges_out_of_tile c.args.self.now c.joints.result.now c.transport.result c.args.task c.tile-tile.result c.joints.ensures c.transport.ensures.value c.tile-tile.ensures c.list.result.now c.list.ensures
