@@ -141,13 +141,12 @@ fn refuses_by_name_and_place(rt: HostRuntime) -> Result<(), Fail> {
 }
 
 /// Words that are no command.
-static OTHER_WORDS: [&str; 15] = [
+static OTHER_WORDS: [&str; 28] = [
     "",
     "plain",
     "plain a/b",
     "plain .mod",
     "plain m.mod 1",
-    "run m.mod 1 1 1",
     "make",
     "make 7 7",
     "make m.mod",
@@ -156,6 +155,20 @@ static OTHER_WORDS: [&str; 15] = [
     "make 007",
     "make 7.0",
     "make 4294967296",
+    "run",
+    "run m.mod",
+    "run m.mod 1 1",
+    "run m.mod 0 1 1",
+    "run m.mod 1 0 1",
+    "run m.mod 1 1 0",
+    "run m.mod 01 1 1",
+    "run m.mod 4097 1 1",
+    "run m.mod 1 4097 1",
+    "run m.mod 1 1 65",
+    "run m.mod 1 -1 1",
+    "run m.mod 1 1 1 1",
+    "run a/b 1 1 1",
+    "run 1 1 1",
     "--help",
 ];
 

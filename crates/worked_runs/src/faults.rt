@@ -1,6 +1,6 @@
-//! Runs in which the folder, the sink or the memory fails, at each call in turn: over a script with three inputs and three
-//! outputs, over two steps, with a table, a series, a stack and time series, over rainfall and runoff, and over stages and a
-//! step, with a drain map, windows and areas.
+//! Runs in which the folder, the sink or the memory fails, at each call in turn, over whole maps and by tiles: over a script
+//! with three inputs and three outputs, over two steps, with a table, a series, a stack and time series, over rainfall and
+//! runoff, and over stages and a step, with a drain map, windows and areas.
 
 use crate::files::{
     File, INPUTS, PUT, PUT_ELSEWHERE, RUNOFF, RUNOFF_FILES, RUNOFF_PUTS, THREE, THREE_PUTS,
@@ -139,20 +139,32 @@ fn puts_before(model: &Model, puts: usize) -> &'static [File] {
 }
 
 // A run in which this call of the folder fails ends so.
-fn expect_fault(rt: &impl Abort, alloc: Global, model: &Model, row: &Call) -> Result<(), Fail> {
+fn expect_fault(
+    rt: &impl Abort,
+    alloc: Global,
+    words: &str,
+    model: &Model,
+    row: &Call,
+) -> Result<(), Fail> {
     let (call, puts, answer, line) = *row;
     let mut folder = folder_with(alloc, model.0, model.1, call)?;
-    expect_end(rt, alloc, "plain m.mod", &mut folder, answer, line)?;
+    expect_end(rt, alloc, words, &mut folder, answer, line)?;
     expect_puts(rt, alloc, &folder, model.2, puts_before(model, puts), line)
 }
 
 // A run in which this call of the folder fails, and the write of the line too, tells the status that stood there.
-fn expect_unwritten(rt: &impl Abort, alloc: Global, model: &Model, row: &Call) -> Result<(), Fail> {
+fn expect_unwritten(
+    rt: &impl Abort,
+    alloc: Global,
+    words: &str,
+    model: &Model,
+    row: &Call,
+) -> Result<(), Fail> {
     let (call, puts, stood, line) = *row;
     let mut folder = folder_with(alloc, model.0, model.1, call)?;
     let mut out = MemSink::new();
     out.fail_on(vec![in alloc; 1]?);
-    let end = end_of(alloc, "plain m.mod", &mut folder, &mut out)?;
+    let end = end_of(alloc, words, &mut folder, &mut out)?;
     assert_eq!(rt; instead_of(&end), Some(stood), "no line at {line}");
     assert_eq!(rt;
         (status(&end), out.bytes().len()),
@@ -172,7 +184,13 @@ fn instead_of(end: &Ended) -> Option<u8> {
 
 // A run in which this call finds no memory ends so and writes nothing, whether the sink works or not; the call past the last
 // is not made.
-fn expect_no_memory(rt: &impl Abort, alloc: Global, model: &Model, row: &Call) -> Result<(), Fail> {
+fn expect_no_memory(
+    rt: &impl Abort,
+    alloc: Global,
+    words: &str,
+    model: &Model,
+    row: &Call,
+) -> Result<(), Fail> {
     let (call, puts, stands, line) = *row;
     let (answer, written, made, sink_fails): (u8, &str, u64, u64) = if stands == 0 {
         (0, line, call.saturating_sub(1), 0)
@@ -182,7 +200,7 @@ fn expect_no_memory(rt: &impl Abort, alloc: Global, model: &Model, row: &Call) -
     let mut folder = ScantFolder::new(folder_with(alloc, model.0, model.1, 0)?, call);
     let mut out = MemSink::new();
     out.fail_on(vec![in alloc; sink_fails]?);
-    let end = end_of(alloc, "plain m.mod", &mut folder, &mut out)?;
+    let end = end_of(alloc, words, &mut folder, &mut out)?;
     assert_eq!(rt; out.bytes(), written.as_bytes(), "no memory at {line}");
     assert_eq!(rt;
         (status(&end), folder.calls),
@@ -200,19 +218,29 @@ fn expect_no_memory(rt: &impl Abort, alloc: Global, model: &Model, row: &Call) -
 }
 
 // Each call of a script fails in turn.
-fn expect_model(rt: &impl Abort, alloc: Global, model: &Model) -> Result<(), Fail> {
+fn expect_model(rt: &impl Abort, alloc: Global, words: &str, model: &Model) -> Result<(), Fail> {
     for row in model.4 {
-        expect_fault(rt, alloc, model, row)?;
-        expect_unwritten(rt, alloc, model, row)?;
-        expect_no_memory(rt, alloc, model, row)?;
+        expect_fault(rt, alloc, words, model, row)?;
+        expect_unwritten(rt, alloc, words, model, row)?;
+        expect_no_memory(rt, alloc, words, model, row)?;
+    }
+    Ok(())
+}
+
+// Each call of each script fails in turn.
+fn expect_models(rt: &impl Abort, alloc: Global, words: &str) -> Result<(), Fail> {
+    for model in &MODELS {
+        expect_model(rt, alloc, words, model)?;
     }
     Ok(())
 }
 
 #[test]
 fn each_call_fails_in_turn(rt: HostRuntime) -> Result<(), Fail> {
-    for model in &MODELS {
-        expect_model(&rt, rt.alloc(), model)?;
-    }
-    Ok(())
+    expect_models(&rt, rt.alloc(), "plain m.mod")
+}
+
+#[test]
+fn each_call_fails_in_turn_by_tiles(rt: HostRuntime) -> Result<(), Fail> {
+    expect_models(&rt, rt.alloc(), "run m.mod 1 2 2")
 }

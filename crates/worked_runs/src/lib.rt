@@ -29,4 +29,6 @@ mod scripts;
 #[cfg(test)]
 mod steps;
 #[cfg(test)]
+mod tiles;
+#[cfg(test)]
 mod weak;

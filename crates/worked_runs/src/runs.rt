@@ -2,8 +2,8 @@
 
 use crate::files::{File, folder_with, text_of};
 use cell_values::Word;
-use lue_run::{Ended, lue_plain, status};
-use outside_io::{Folder, MemFolder, MemSink, Sink};
+use lue_run::{Ended, lue_main, lue_plain, status};
+use outside_io::{Folder, MemFolder, MemSink, OpenGate, Sink};
 use std::alloc::Global;
 use std::process::Abort;
 use std::test::Fail;
@@ -26,7 +26,7 @@ pub(crate) fn words_of(alloc: Global, text: &str) -> Result<Vec<Word>, Fail> {
     Ok(words)
 }
 
-/// The end of the words of a text.
+/// The end of the words of a text, by the top call that has such words.
 pub(crate) fn end_of<F: Folder, S: Sink>(
     alloc: Global,
     text: &str,
@@ -34,6 +34,9 @@ pub(crate) fn end_of<F: Folder, S: Sink>(
     out: &mut S,
 ) -> Result<Ended, Fail> {
     let words = words_of(alloc, text)?;
+    if text.starts_with("run") {
+        return Ok(lue_main(alloc, &words, folder, out, &OpenGate));
+    }
     Ok(lue_plain(alloc, &words, folder, out))
 }
 
@@ -94,17 +97,28 @@ pub(crate) fn expect_puts(
     Ok(())
 }
 
-/// A script ends so, over its files.
+/// A script ends so by these words, over its files.
+pub(crate) fn expect_case_by(
+    rt: &impl Abort,
+    alloc: Global,
+    words: &str,
+    head: &str,
+    case: &Case,
+) -> Result<(), Fail> {
+    let (script, files, answer, line, puts) = *case;
+    let mut folder = folder_with(alloc, script, files, 0)?;
+    expect_end(rt, alloc, words, &mut folder, answer, line)?;
+    expect_puts(rt, alloc, &folder, head, puts, script)
+}
+
+/// A script ends so over whole maps.
 pub(crate) fn expect_case(
     rt: &impl Abort,
     alloc: Global,
     head: &str,
     case: &Case,
 ) -> Result<(), Fail> {
-    let (script, files, answer, line, puts) = *case;
-    let mut folder = folder_with(alloc, script, files, 0)?;
-    expect_end(rt, alloc, "plain m.mod", &mut folder, answer, line)?;
-    expect_puts(rt, alloc, &folder, head, puts, script)
+    expect_case_by(rt, alloc, "plain m.mod", head, case)
 }
 
 /// Each script ends so, over its files.
