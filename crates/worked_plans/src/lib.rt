@@ -1,5 +1,5 @@
-//! Tests of plans: how many tasks, what each reads, who reads it, and border edges. The programs are those of scripts; the numbers
-//! were worked out by hand. The crate has tests alone.
+//! Tests of plans: how many tasks, what each reads, who reads it, border edges, and graphs. The programs are those of scripts; the
+//! numbers were worked out by hand. The crate has tests alone.
 #![tactic(auto)]
 
 #[cfg(test)]
@@ -8,6 +8,8 @@ mod blocks;
 mod counts;
 #[cfg(test)]
 mod edges;
+#[cfg(test)]
+mod graphs;
 #[cfg(test)]
 mod maps;
 #[cfg(test)]
