@@ -2,9 +2,11 @@
 
 ghost use Rattle.std.specs.Prelude.{◌≡◌, ◌≤◌, [], IfOk};
 ghost use Rattle.tile_map.specs.Tiles.{tile_count};
+ghost use Rattle.flow_task.specs.Kits.{KnowsAll};
 ghost use Rattle.map_meaning.specs.Limits.{most_block};
 ghost use Rattle.map_meaning.specs.Programs.{IsWellFormed};
 ghost use Rattle.map_meaning.specs.Spans.{IsSpan, Knows, stage_of};
+ghost use Rattle.map_meaning.specs.Table.{is_transport};
 ghost use Rattle.plan_graph.specs.Borders.{HasDrainsOf};
 ghost use Rattle.plan_graph.specs.PlanGraphs.{IsLocal, IsPlanOf};
 ghost use Rattle.task_graph.specs.Counts.{span_tasks};
@@ -62,6 +64,7 @@ pub fn by_tiles<K: FlowKit>(
     requires known { Knows program.now.value span known.now.value }
     requires rows { tiling.now.rows ≡ known.now.value.rows }
     requires cols { tiling.now.cols ≡ known.now.value.cols }
+    requires kit { KnowsAll is_transport (K.known kit) }
     requires local { (span_plan program.now.value span tiling.now).flows ≡ [] }
     requires few { span_tasks (tile_count tiling.now) program.now.value span ≤ most_tasks }
     ensures { IfOk result (λ end. end ≡ stage_of program.now.value span known.now.value) }

@@ -1,19 +1,26 @@
 -- What the parts of a board keep, and a board with one more step.
-use Rattle.std.proofs.Common.{◌≡◌, ◌≢◌, ℕ, ◌<◌, ◌≤◌, Bool, true, false, ◌⊎◌, inl, inr, ⊎_elim, List, [], ◌∷◌, ◌++◌, length, get_or, Option, Some, None}
+use Rattle.std.proofs.Common.{◌≡◌, ◌≢◌, ℕ, ◌<◌, ◌≤◌, Bool, true, false, ◌⊎◌, inl, inr, ⊎_elim, List, [], ◌∷◌, ◌++◌, length, get_or, set, Option, Some, None}
 use Rattle.std.proofs.Common.{refl, ap, sym, ◌∙◌, subst, arith, length-append}
+use Rattle.std.proofs.lemmas.List.{length-set}
 use Rattle.std.specs.Option.{IsSomeAnd, IsSome}
 use Rattle.std.specs.List.{AllZip}
 use Rattle.std.specs.Arc.{arc_value}
 use Rattle.std.specs.declared.sync.Arc.{Arc}
 use Rattle.std.specs.Global.{Global}
 use mathlib.Core.Logic.{dite}
-use native.Mathlib.Decide.{dec_le}
+use native.Mathlib.Decide.{dec_le, ℕ_discrete}
 use Rattle.core_model.specs.declared.step.Step.{Step}
 use Rattle.core_model.specs.declared.step.Step.TheVariants.{Claim, Publish, Send, Take, Park, PutDown}
 use Rattle.core_model.specs.Graphs.{Graph, Each, In, NeedsWell}
 use Rattle.core_model.specs.Cores.{Status, ready, held, parked, published, Core, upd, opening}
 use Rattle.core_model.specs.Steps.{Allows, Claimable, Enabled, effect}
 use Rattle.core_model.specs.Runs.{BegunHaveNeeds, after, Legal}
+use Rattle.core_model.specs.TaskHistories.{sends_for, sent_edges, taken_edges, takes_for}
+use Rattle.drain_meaning.specs.declared.op.FlowOp.{FlowOp}
+use Rattle.border_channel.specs.Channels.{Queue}
+use Rattle.flow_task.specs.Kits.{KnowsAll}
+use Rattle.flow_task.specs.Works.{TileWork}
+use Rattle.map_meaning.specs.Table.{is_transport}
 use Rattle.core_model.proofs.Callers.{Kept, opening_kept, run_kept, run_begun, after_snoc, legal_snoc, bounded, puts_down_once, idle_enabled, upd_same, upd_cases, each_in, each_from}
 use Rattle.number_lists.specs.Turned.{times}
 use Rattle.plan_graph.specs.PlanGraphs.{graph_of, IsPlan, PlanGraphValue, list_at}
@@ -23,14 +30,16 @@ use Rattle.task_states.specs.declared.states.TaskState.TheVariants.{Ready, Held,
 use Rattle.task_states.specs.declared.states.TaskStates.{TaskStates}
 use Rattle.task_states.proofs.Callers.{in_times, none_unmet, times_in, unmet_none, unmet_published, unmet_ready}
 use Rattle.map_meaning.specs.declared.known.OverAt.{OverAt}
-use Rattle.task_tiles.specs.TaskTiles.{IsPlanned}
 use Rattle.task_tiles.specs.declared.tile.Tile.{Tile}
-use Rattle.task_board.specs.Boards.{IsTileFor, NoneClaimable}
+use Rattle.task_board.specs.Boards.{BoardValue, IsOfItsSpan, IsTileFor, NoneClaimable}
+use Rattle.task_board.specs.Tickets.{HasItsWork, IsGood}
+use Rattle.task_board.specs.inside.Channels.{Carries}
 use Rattle.task_board.specs.Tiles.{AreTilesOf, HasNoTile, hands_out_at}
-use Rattle.task_board.specs.inside.Held.{IsBoard, IsCopy, IsNeeded, IsNotNeeded, Parts, board_of, state_in, steps_at_most, tile_for}
+use Rattle.task_board.specs.inside.Held.{IsBoard, IsCopy, IsLetGo, IsNeeded, IsNotNeeded, Parts, board_of, state_in, steps_at_most, tile_for, work_at}
 use Rattle.task_board.specs.inside.Noted.{IsFirstNoted}
 use Rattle.task_board.proofs.Lists.{zip_map}
 use Rattle.task_board.proofs.NoteLemmas.{first_like, none_noted}
+use Rattle.task_board.proofs.WorkLemmas.{other_sends, other_status, other_takes, task_of, work_other, work_same, work_step}
 
 -- who reads a task, by the plan
 pub reads_it : (p : PlanGraphValue) (t : ℕ) → IsPlan p → t < p.tasks → ReadsIt (graph_of p) t (list_at p.readers t)
@@ -91,16 +100,17 @@ quiet_step g s (PutDown w t) q en u = open_upd s.status t ready u (sym (ap unpub
 -- ---- boards
 
 -- the parts of a board on which nothing was done
-pub opening_board : (x : Parts) → x.history ≡ [] → IsPlan x.plan → IsPlanned x.plan.plan x.plan.span x.program x.known → x.workers ≤ 64
+pub opening_board : (x : Parts) → x.history ≡ [] → IsPlan x.plan → IsOfItsSpan (board_of x) → KnowsAll is_transport x.knows → x.workers ≤ 64
     → Reflects (graph_of x.plan) x.workers opening x.states → length x.tiles ≡ x.plan.tasks → ((k : ℕ) → tile_for x.tiles k ≡ None)
     → length x.unread ≡ x.plan.tasks → ((t : ℕ) → t < x.plan.tasks → get_or x.unread t 0 ≡ length (list_at x.plan.readers t))
     → length x.kept ≡ x.plan.tasks → ((t : ℕ) → t < x.plan.tasks → get_or x.kept t false ≡ hands_out_at x.plan.plan x.program x.plan.span t)
-    → x.works ≡ x.plan.tasks → steps_at_most x.plan x.workers ≤ x.room → x.over ≡ None → IsBoard x
-opening_board x none' plan planned few shows all_tiles no_tiles all_unread reads all_kept keeps all_works enough no_over =
+    → length x.works ≡ x.plan.tasks → ((t : ℕ) → work_at x.works t ≡ None) → Carries (board_of x) x.channels → steps_at_most x.plan x.workers ≤ x.room → x.over ≡ None → IsBoard x
+opening_board x none' plan of kit few shows all_tiles no_tiles all_unread reads all_kept keeps all_works no_works carries enough no_over =
     let at : state_in x ≡ opening = ap (λ (l : List Step). after (graph_of x.plan) l) none' in
     record {
       plan = plan;
-      planned = planned;
+      of = of;
+      kit = kit;
       few = few;
       legal = subst (λ (l : List Step). Legal (graph_of x.plan) x.workers l) (sym none') tt;
       shows = subst (λ (s : Core). Reflects (graph_of x.plan) x.workers s x.states) (sym at) shows;
@@ -108,6 +118,8 @@ opening_board x none' plan planned few shows all_tiles no_tiles all_unread reads
       all_unread = all_unread;
       all_kept = all_kept;
       all_works = all_works;
+      has_works = λ t lt _. subst (λ (o : Option (TileWork FlowOp)). HasItsWork (board_of x) t o) (sym (no_works t)) (ap (taken_edges t) none', ap (sent_edges t) none');
+      carries = carries;
       reads = λ t lt. reads t lt ∙ sym (unmet_ready (list_at x.plan.readers t)) ∙ ap (λ (s : Core). unmet_of s.status (list_at x.plan.readers t)) (sym at);
       keeps = keeps;
       has = λ t lt is. absurd (let z : ready ≡ published = ap (λ (s : Core). s.status t) (sym at) ∙ is in cc);
@@ -142,7 +154,8 @@ module _ {x : Parts} (b : IsBoard x) where
   pub same_board : (ss : TaskStates) → Reflects (graph_of x.plan) x.workers (state_in x) ss → IsBoard (record x { states = ss })
   same_board ss r = record {
     plan = b.plan;
-    planned = b.planned;
+    of = record { planned = b.of.planned; drains = b.of.drains };
+    kit = b.kit;
     few = b.few;
     legal = b.legal;
     shows = r;
@@ -150,6 +163,8 @@ module _ {x : Parts} (b : IsBoard x) where
     all_unread = b.all_unread;
     all_kept = b.all_kept;
     all_works = b.all_works;
+    has_works = b.has_works;
+    carries = b.carries;
     reads = b.reads;
     keeps = b.keeps;
     has = b.has;
@@ -159,17 +174,20 @@ module _ {x : Parts} (b : IsBoard x) where
   }
 
   -- by equal parts
-  pub board_by : (xs : List Step) (works room : ℕ) → xs ≡ x.history → works ≡ x.works → room ≡ x.room → IsBoard (record x { history = xs; works = works; room = room })
-  board_by xs works room e f h = subst (λ (z : List Step). IsBoard (record x { history = z; works = works; room = room })) (sym e) record {
+  pub board_by : (xs : List Step) (room : ℕ) → xs ≡ x.history → room ≡ x.room → IsBoard (record x { history = xs; room = room })
+  board_by xs room e h = subst (λ (z : List Step). IsBoard (record x { history = z; room = room })) (sym e) record {
     plan = b.plan;
-    planned = b.planned;
+    of = record { planned = b.of.planned; drains = b.of.drains };
+    kit = b.kit;
     few = b.few;
     legal = b.legal;
     shows = b.shows;
     all_tiles = b.all_tiles;
     all_unread = b.all_unread;
     all_kept = b.all_kept;
-    all_works = f ∙ b.all_works;
+    all_works = b.all_works;
+    has_works = b.has_works;
+    carries = b.carries;
     reads = b.reads;
     keeps = b.keeps;
     has = b.has;
@@ -178,22 +196,53 @@ module _ {x : Parts} (b : IsBoard x) where
     overs = b.overs;
   }
 
+  -- the board after one step more
+  abbrev pub next_board : Step → BoardValue
+  next_board s = record (board_of x) { history = x.history ++ s ∷ [] }
+
+  -- the works of tasks after a step, where only that of its own task may have changed
+  pub works_step : (s : Step) (ws : List (Option (TileWork FlowOp))) → ((u : ℕ) → u ≢ task_of s → work_at ws u ≡ work_at x.works u)
+      → (IsLetGo ((effect (graph_of x.plan) (state_in x) s).status (task_of s)) → HasItsWork (next_board s) (task_of s) (work_at ws (task_of s)))
+      → (u : ℕ) → u < x.plan.tasks → IsLetGo ((after (graph_of x.plan) (x.history ++ s ∷ [])).status u) → HasItsWork (next_board s) u (work_at ws u)
+  works_step s ws others own u lt let_go =
+      let g = graph_of x.plan in
+      let go : IsLetGo ((effect g (state_in x) s).status u) = subst (λ (z : Core). IsLetGo (z.status u)) (after_one s) let_go in
+      dite (ℕ_discrete u (task_of s))
+      (λ is. subst (λ (v : ℕ). HasItsWork (next_board s) v (work_at ws v)) (sym is) (own (subst (λ (v : ℕ). IsLetGo ((effect g (state_in x) s).status v)) is go)))
+      (λ ne. subst (λ (o : Option (TileWork FlowOp)). HasItsWork (next_board s) u o) (sym (others u ne))
+      (work_step (board_of x) s u (work_at x.works u) (other_takes s u ne) (other_sends s u ne) (b.has_works u lt (subst IsLetGo (other_status g (state_in x) s u ne) go))))
+
+  -- a step that changes no channel
+  pub carries_step : (s : Step) → (effect (graph_of x.plan) (state_in x) s).waiting ≡ (state_in x).waiting → Carries (next_board s) x.channels
+  carries_step s same = record {
+    all = b.carries.all;
+    waiting = λ c lt. b.carries.waiting c lt ∙ ap (λ (f : ℕ → List ℕ). f c) (sym same) ∙ ap (λ (z : Core). z.waiting c) (sym (after_one s));
+    stand = b.carries.stand;
+    room = b.carries.room;
+  }
+
   -- a step that publishes nothing
-  pub quiet_board : (s : Step) (ss : TaskStates) → is_quiet s ≡ true → Enabled (graph_of x.plan) (state_in x) x.workers s → Reflects (graph_of x.plan) x.workers (effect (graph_of x.plan) (state_in x) s) ss
-      → IsBoard (record x { history = x.history ++ s ∷ []; states = ss })
-  quiet_board s ss q en r =
+  pub quiet_board : (s : Step) (ss : TaskStates) (ws : List (Option (TileWork FlowOp))) (cs : List Queue) → is_quiet s ≡ true → Enabled (graph_of x.plan) (state_in x) x.workers s
+      → Reflects (graph_of x.plan) x.workers (effect (graph_of x.plan) (state_in x) s) ss → length ws ≡ length x.works
+      → ((u : ℕ) → u ≢ task_of s → work_at ws u ≡ work_at x.works u)
+      → (IsLetGo ((effect (graph_of x.plan) (state_in x) s).status (task_of s)) → HasItsWork (next_board s) (task_of s) (work_at ws (task_of s)))
+      → Carries (next_board s) cs → IsBoard (record x { history = x.history ++ s ∷ []; states = ss; works = ws; channels = cs })
+  quiet_board s ss ws cs q en r many others own carried =
       let open' : (u : ℕ) → unpublished ((after (graph_of x.plan) (x.history ++ s ∷ [])).status u) ≡ unpublished ((state_in x).status u) =
       λ u. ap (λ (z : Core). unpublished (z.status u)) (after_one s) ∙ quiet_step (graph_of x.plan) (state_in x) s q en.1 u in
       record {
         plan = b.plan;
-        planned = b.planned;
+        of = record { planned = b.of.planned; drains = b.of.drains };
+        kit = b.kit;
         few = b.few;
         legal = legal_snoc (graph_of x.plan) x.workers opening x.history s b.legal en;
         shows = subst (λ (z : Core). Reflects (graph_of x.plan) x.workers z ss) (sym (after_one s)) r;
         all_tiles = b.all_tiles;
         all_unread = b.all_unread;
         all_kept = b.all_kept;
-        all_works = b.all_works;
+        all_works = many ∙ b.all_works;
+        has_works = works_step s ws others own;
+        carries = carried;
         reads = λ t lt. b.reads t lt ∙ sym (unmet_like (after (graph_of x.plan) (x.history ++ s ∷ [])).status (state_in x).status (list_at x.plan.readers t) open');
         keeps = b.keeps;
         has = λ t lt is need. b.has t lt (published_like _ _ (open' t) is) need;
@@ -201,6 +250,35 @@ module _ {x : Parts} (b : IsBoard x) where
         enough = b.enough;
         overs = first_like x.plan x.program x.known (state_in x).status (after (graph_of x.plan) (x.history ++ s ∷ [])).status x.over (λ t. sym (open' t)) b.overs;
       }
+
+  -- a step by which a holder lets go of its task, with the task's work
+  pub let_go_board : (s : Step) (ss : TaskStates) (o : Option (TileWork FlowOp)) → is_quiet s ≡ true → Enabled (graph_of x.plan) (state_in x) x.workers s
+      → Reflects (graph_of x.plan) x.workers (effect (graph_of x.plan) (state_in x) s) ss → takes_for (task_of s) s ≡ [] → sends_for (task_of s) s ≡ []
+      → task_of s < x.plan.tasks → HasItsWork (board_of x) (task_of s) o → Carries (next_board s) x.channels
+      → IsBoard (record x { history = x.history ++ s ∷ []; states = ss; works = set x.works (task_of s) o })
+  let_go_board s ss o q en r takes sends lt has carried =
+      quiet_board s ss (set x.works (task_of s) o) x.channels q en r (length-set x.works (task_of s) o) (λ u ne. work_other x.works (task_of s) u o ne)
+      (λ _. subst (λ (k : Option (TileWork FlowOp)). HasItsWork (next_board s) (task_of s) k) (sym (work_same x.works (task_of s) o (let k = b.all_works in omega arith)))
+      (work_step (board_of x) s (task_of s) o takes sends has)) carried
+
+  -- a claim, after which the board need not have the task's work
+  pub claimed_board : (w t : ℕ) (ss : TaskStates) (o : Option (TileWork FlowOp)) → Enabled (graph_of x.plan) (state_in x) x.workers (Claim w t)
+      → Reflects (graph_of x.plan) x.workers (effect (graph_of x.plan) (state_in x) (Claim w t)) ss
+      → IsBoard (record x { history = x.history ++ Claim w t ∷ []; states = ss; works = set x.works t o })
+  claimed_board w t ss o en r =
+      quiet_board (Claim w t) ss (set x.works t o) x.channels refl en r (length-set x.works t o) (λ u ne. work_other x.works t u o ne)
+      (λ go. absurd (subst IsLetGo (upd_same (state_in x).status t (held w)) go)) (carries_step (Claim w t) refl)
+
+  -- a task that can be claimed is let go
+  claimable_let_go : (s : Core) (t : ℕ) → Claimable (graph_of x.plan) s t → IsLetGo (s.status t)
+  claimable_let_go s t c = ⊎_elim (λ r. subst IsLetGo (sym r.0) tt) (λ r. subst IsLetGo (sym r.0) tt) c
+
+  -- who claims a task has its work
+  pub claimed_good : (w t : ℕ) → w ≤ x.workers → t < x.plan.tasks → Claimable (graph_of x.plan) (state_in x) t → IsGood (next_board (Claim w t)) w t (work_at x.works t)
+  claimed_good w t le lt c = record {
+    holds = record { number = le; task = lt; holds = claimed_holds w t };
+    has = work_step (board_of x) (Claim w t) t (work_at x.works t) refl refl (b.has_works t lt (claimable_let_go (state_in x) t c));
+  }
 
   -- where the stack is empty, no task can be claimed
   pub none_claimable : x.states.claimable.items ≡ [] → NoneClaimable (board_of x)

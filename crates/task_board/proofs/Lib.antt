@@ -1,6 +1,14 @@
 pub mod Lists
+pub mod WorkLemmas
+pub mod TicketLemmas
 pub mod ReadLemmas
 pub mod BoardLemmas
+pub mod FoundLemmas
+pub mod HistoryLemmas
+pub mod ChannelLemmas
+pub mod TileLemmas
+pub mod FlowLemmas
+pub mod SendLemmas
 pub mod PublishLemmas
 pub mod DriveLemmas
 pub mod NoteLemmas

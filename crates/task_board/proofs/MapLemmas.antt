@@ -1,6 +1,6 @@
 -- The tiles of a map, put together, and the kept maps of a finished board.
 use Rattle.std.proofs.Common.{◌≡◌, ℕ, zero, suc, ◌+◌, ◌-◌, ◌*◌, ◌/◌, ◌%◌, ◌<◌, ◌≤◌, Bool, true, false, if◌then◌else◌, List, [], ◌∷◌, ◌++◌, length, take, get_or, Option, Some, None, slice_get}
-use Rattle.std.proofs.Common.{inl, inr, refl, sym, ap, ◌∙◌, subst, arith}
+use Rattle.std.proofs.Common.{inr, refl, sym, ap, ◌∙◌, subst, arith}
 use Rattle.std.specs.Option.{IsSomeAnd}
 use Rattle.std.specs.Arc.{arc_value}
 use Rattle.std.specs.declared.sync.Arc.{Arc}
@@ -9,15 +9,14 @@ use Rattle.std.proofs.lemmas.List.{append_assoc, append-nil, get_or_default, len
 use Rattle.core_model.specs.Cores.{published}
 use Rattle.cell_values.specs.declared.cell.Cell.{Cell}
 use Rattle.tile_map.specs.Cuts.{cell_at, cut_of, gathered}
-use Rattle.tile_map.specs.Parts.{or_missing, part_of}
-use Rattle.tile_map.specs.Rects.{IsInMap, cell_count, place_in}
+use Rattle.tile_map.specs.Parts.{or_missing}
+use Rattle.tile_map.specs.Rects.{IsInMap, place_in}
 use Rattle.tile_map.specs.Tiles.{rect_of, tile_count}
 use Rattle.tile_map.specs.declared.part.Part.{Part}
 use Rattle.tile_map.specs.declared.rect.Rect.{Rect}
 use Rattle.tile_map.specs.declared.tiling.Tiling.{Tiling}
 use Rattle.tile_map.proofs.Callers.{get_or-cut_of, length-cut_of, length-tabulate, tile_in_map}
 use Rattle.tile_map.proofs.CutLemmas.{gathers_the_cut}
-use Rattle.tile_cuts.specs.TileParts.{part_in}
 use Rattle.tile_cuts.proofs.OverLemmas.{are_cuts}
 use Rattle.map_meaning.specs.declared.known.Known.{Known}
 use Rattle.map_meaning.specs.declared.known.Span.{Span}
@@ -26,23 +25,20 @@ use Rattle.map_meaning.specs.declared.program.Operation.{Operation}
 use Rattle.map_meaning.specs.declared.program.Program.{Program}
 use Rattle.map_meaning.specs.Evaluation.{Done, operation_part, outcome_at, section_maps}
 use Rattle.map_meaning.specs.Maps.{WholeMap, nth}
-use Rattle.map_meaning.specs.Scenes.{place_count}
 use Rattle.map_meaning.specs.Spans.{first_operation, kept_maps, scene_of, span_operations}
 use Rattle.task_graph.specs.declared.class.Class.{Class}
 use Rattle.task_graph.specs.declared.class.Class.TheVariants as class
 use Rattle.task_graph.specs.declared.task.Task.{Task}
-use Rattle.task_graph.specs.declared.task.Work.{Work}
 use Rattle.task_graph.specs.Classes.{before_value, op_class, tasks_for}
 use Rattle.task_graph.specs.Counts.{tasks_of}
 use Rattle.task_graph.specs.Layouts.{tasks_in}
 use Rattle.task_graph.specs.Plans.{PlanValue, task_at, value_work}
 use Rattle.task_graph.proofs.Callers.{some_tiles}
-use Rattle.plan_graph.specs.PlanGraphs.{PlanGraphValue}
-use Rattle.task_tiles.specs.TaskTiles.{IsPartTile, IsPlanned, IsTaskTile, IsWorkTile, onward_done, span_section, tile_part}
+use Rattle.task_tiles.specs.TaskTiles.{IsPartTile, IsTaskTile, IsWorkTile, onward_done, span_section, tile_part}
 use Rattle.task_tiles.specs.declared.tile.Tile.{Tile}
 use Rattle.task_tiles.specs.declared.tile.Tile.TheVariants as tile
 use Rattle.task_tiles.proofs.Callers.{done_map}
-use Rattle.task_board.specs.Tiles.{hands_out, hands_out_at, hands_out_map}
+use Rattle.task_board.specs.Tiles.{hands_out, hands_out_map}
 use Rattle.task_board.specs.inside.Collected.{AreTilesOfMap, HaveTiles, cells_by, held_cells, span_begin, step_count, with_kept_map}
 use Rattle.task_board.specs.inside.Held.{IsBoard, Parts, state_in, tile_for}
 use Rattle.task_board.proofs.Lists.{take_snoc}
@@ -191,7 +187,7 @@ module _ {x : Parts} (b : IsBoard x) (finished : (t : ℕ) → t < x.plan.tasks 
       let g : Tiling = x.plan.plan.tiling in
       let program : Program = x.program in
       let known : Known = x.known in
-      let planned = b.planned in
+      let planned = b.of.planned in
       let count : ℕ = tile_count g in
       let step : ℕ = span_begin s + n in
       let done = onward_done program s known step in

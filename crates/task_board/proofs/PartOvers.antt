@@ -1,17 +1,16 @@
 -- The first place out of range of a map, and what the tiles tell of it.
-use Rattle.std.proofs.Common.{◌≡◌, ℕ, ◌+◌, ◌*◌, ◌/◌, ◌%◌, ◌<◌, ◌≤◌, ◌⊎◌, inl, inr, refl, ap, sym, subst, ◌∙◌, arith, mul-le-mul_left, Option, Some, None, Ok, Err}
+use Rattle.std.proofs.Common.{◌≡◌, ℕ, ◌+◌, ◌*◌, ◌/◌, ◌%◌, ◌<◌, ◌≤◌, ◌⊎◌, inl, inr, refl, ap, subst, ◌∙◌, arith, mul-le-mul_left, Option, Some, None, Ok, Err}
 use Rattle.std.specs.Prelude.{IsOk, IsErr}
 use Rattle.std.proofs.lemmas.Bool.{cases_eq, cases_order}
 use Rattle.tile_map.specs.declared.rect.Rect.{Rect}
 use Rattle.tile_map.specs.declared.tiling.Tiling.{Tiling}
 use Rattle.tile_map.specs.Parts.{Outcome, TellsFirstOver}
-use Rattle.tile_map.specs.Rects.{HoldsPlace, IsInMap, cell_count, place_in}
+use Rattle.tile_map.specs.Rects.{HoldsPlace, cell_count, place_in}
 use Rattle.tile_map.specs.Tiles.{rect_of, tile_at, tile_count}
 use Rattle.tile_map.proofs.Callers.{holds_cell, tile_in_map, tile_of_place}
 use Rattle.tile_cuts.specs.Laws.{TellsFirstHeld}
 use Rattle.tile_cuts.specs.TileParts.{part_in, told_place}
 use Rattle.tile_cuts.proofs.OverLemmas.{are_cuts}
-use Rattle.map_meaning.specs.declared.known.OverAt.{OverAt}
 use Rattle.map_meaning.specs.declared.program.Operation.{Operation}
 use Rattle.task_board.specs.inside.Noted.{IsBefore, place_note}
 

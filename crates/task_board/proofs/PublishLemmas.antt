@@ -1,6 +1,6 @@
 -- A board on which a task was published.
 use Rattle.std.proofs.Common.{◌≡◌, ◌≢◌, ℕ, ◌<◌, ◌≤◌, true, false, ◌⊎◌, inl, inr, ⊎_elim, List, [], ◌∷◌, ◌++◌, length, get_or, Option, None}
-use Rattle.std.proofs.Common.{ap, sym, ◌∙◌, subst, arith}
+use Rattle.std.proofs.Common.{refl, ap, sym, ◌∙◌, subst, arith}
 use Rattle.std.specs.Option.{IsSomeAnd}
 use Rattle.std.specs.Arc.{arc_value}
 use Rattle.std.specs.declared.sync.Arc.{Arc}
@@ -20,9 +20,9 @@ use Rattle.task_states.proofs.Callers.{unmet_published}
 use Rattle.map_meaning.specs.declared.known.OverAt.{OverAt}
 use Rattle.task_tiles.specs.declared.tile.Tile.{Tile}
 use Rattle.task_board.specs.Boards.{IsTileFor}
-use Rattle.task_board.specs.inside.Held.{AreRead, IsPutAmong, IsBoard, IsNeeded, IsNotNeeded, Parts, board_of, state_in, tile_for}
+use Rattle.task_board.specs.inside.Held.{AreRead, IsLetGo, IsPutAmong, IsBoard, IsNeeded, IsNotNeeded, Parts, board_of, state_in, tile_for}
 use Rattle.task_board.specs.inside.Noted.{IsEarlierOf, IsFirstNoted, tile_note}
-use Rattle.task_board.proofs.BoardLemmas.{after_one}
+use Rattle.task_board.proofs.BoardLemmas.{after_one, carries_step, works_step}
 use Rattle.task_board.proofs.NoteLemmas.{first_published}
 
 module _ {x : Parts} (b : IsBoard x) (w t : ℕ) (ss : TaskStates) (tiles new : List (Option (Arc Tile Global))) (unread : List ℕ)
@@ -85,7 +85,8 @@ module _ {x : Parts} (b : IsBoard x) (w t : ℕ) (ss : TaskStates) (tiles new : 
   unfolding now
   published_board = record {
     plan = b.plan;
-    planned = b.planned;
+    of = record { planned = b.of.planned; drains = b.of.drains };
+    kit = b.kit;
     few = b.few;
     legal = legal_snoc (graph_of x.plan) x.workers opening x.history (Publish w t) b.legal en;
     shows = subst (λ (s : Core). Reflects (graph_of x.plan) x.workers s ss) (sym now_is) r;
@@ -93,6 +94,8 @@ module _ {x : Parts} (b : IsBoard x) (w t : ℕ) (ss : TaskStates) (tiles new : 
     all_unread = many_unread ∙ b.all_unread;
     all_kept = b.all_kept;
     all_works = b.all_works;
+    has_works = works_step b (Publish w t) x.works (λ u ne. refl) (λ go. absurd (subst IsLetGo (upd_same (state_in x).status t published) go));
+    carries = carries_step b (Publish w t) refl;
     reads = reads_now;
     keeps = b.keeps;
     has = has_now;

@@ -3,15 +3,14 @@ use Rattle.std.proofs.Common.{◌≡◌, ℕ, zero, suc, ◌+◌, ◌-◌, ◌<�
 use Rattle.std.proofs.Common.{refl, sym, ap, ◌∙◌, subst, arith, Result, Ok, Err}
 use Rattle.std.specs.Prelude.{All, AllPairs, Contains}
 use Rattle.std.proofs.lemmas.Bool.{cases_eq}
-use Rattle.std.proofs.lemmas.List.{append_assoc, append-nil, get_or-drop, get_or-take, length-append, length-drop, length-take, take_all}
-use Rattle.std.proofs.lemmas.List.Elements.{All-append, All-cons, All-contains, All-nil, All-weaker, Contains-append_left, Contains-append_right}
+use Rattle.std.proofs.lemmas.List.{append_assoc, append-nil, get_or-drop, get_or-take, length-drop, length-take, take_all}
+use Rattle.std.proofs.lemmas.List.Elements.{All-append, All-cons, All-contains, All-nil, Contains-append_left, Contains-append_right}
 use Rattle.std.proofs.lemmas.Option.{slice_get_within}
 use Rattle.tile_map.proofs.Callers.{length-tabulate}
 use Rattle.map_meaning.specs.declared.known.Known.{Known}
 use Rattle.map_meaning.specs.declared.known.OverAt.{OverAt}
 use Rattle.map_meaning.specs.declared.known.Span.{Span}
 use Rattle.map_meaning.specs.declared.known.Span.TheVariants as span
-use Rattle.map_meaning.specs.declared.known.StageEnd.{StageEnd}
 use Rattle.map_meaning.specs.declared.known.StepMap.{StepMap}
 use Rattle.map_meaning.specs.declared.program.Operation.{Operation}
 use Rattle.map_meaning.specs.declared.program.Program.{Program}
@@ -22,12 +21,12 @@ use Rattle.map_meaning.specs.Onward.{ComesBefore, Onward, note_of, onward}
 use Rattle.map_meaning.specs.Overs.{over_at}
 use Rattle.map_meaning.specs.Programs.{IsWellFormed, StandsBefore}
 use Rattle.map_meaning.specs.Scenes.{Scene}
-use Rattle.map_meaning.specs.Spans.{IsSpan, done_before, first_operation, kept_map, kept_maps, scene_of, span_operations, stage_of, told_of}
+use Rattle.map_meaning.specs.Spans.{IsSpan, done_before, kept_map, kept_maps, scene_of, span_operations, stage_of, told_of}
 use Rattle.block_meaning.specs.Blocks.{IsEarlier, IsFirstOf, OnwardSteps, TellsFirstNoted, kept_maps_of, onward_steps}
 use Rattle.block_meaning.proofs.BlockLemmas.{tells_first}
 use Rattle.task_tiles.specs.TaskTiles.{onward_done}
 use Rattle.task_tiles.proofs.Callers.{notes_of, onward_count, onward_notes, span_reads, step_notes, steps_notes}
-use Rattle.task_board.specs.inside.Collected.{first_maps, span_begin, step_count, steps_told}
+use Rattle.task_board.specs.inside.Collected.{first_maps, span_begin, step_count}
 use Rattle.task_board.proofs.Lists.{take_snoc}
 
 -- ---- the notes of the first steps

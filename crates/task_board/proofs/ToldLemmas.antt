@@ -1,12 +1,12 @@
 -- A finished board has noted the Over that is told.
 use Rattle.std.proofs.Common.{◌≡◌, ℕ, ◌+◌, ◌*◌, ◌<◌, ◌≤◌, ◌⊎◌, inl, inr, ⊎_elim, List, [], length, take, Option, Some, None, IfSome, slice_get, refl, sym, ap, ◌∙◌, subst, arith}
-use Rattle.std.specs.Prelude.{All, Contains}
+use Rattle.std.specs.Prelude.{Contains}
 use Rattle.std.proofs.lemmas.List.Elements.{All-contains}
 use Rattle.core_model.specs.Cores.{Status, published}
 use Rattle.tile_map.specs.declared.part.Part.{Part}
 use Rattle.tile_map.specs.declared.tiling.Tiling.{Tiling}
-use Rattle.tile_map.specs.Parts.{Outcome, TellsFirstOver, first_over, part_of}
-use Rattle.tile_map.specs.Rects.{cell_count, place_in}
+use Rattle.tile_map.specs.Parts.{TellsFirstOver, first_over}
+use Rattle.tile_map.specs.Rects.{place_in}
 use Rattle.tile_map.specs.Tiles.{rect_of, tile_at, tile_count}
 use Rattle.tile_map.proofs.Callers.{is_part-part_of, tile_of_place}
 use Rattle.tile_cuts.specs.TileParts.{part_in}
@@ -31,12 +31,11 @@ use Rattle.task_graph.specs.Counts.{tasks_of}
 use Rattle.task_graph.specs.Layouts.{tasks_in}
 use Rattle.task_graph.specs.Plans.{PlanValue, task_at, value_work}
 use Rattle.plan_graph.specs.PlanGraphs.{PlanGraphValue}
-use Rattle.task_tiles.specs.TaskTiles.{IsPlanned, IsTaskTile, IsWorkTile, onward_done, span_section, tile_part}
-use Rattle.task_tiles.specs.declared.tile.Tile.{Tile}
+use Rattle.task_tiles.specs.TaskTiles.{IsPlanned, IsWorkTile, onward_done, span_section, tile_part}
 use Rattle.task_tiles.specs.declared.tile.Tile.TheVariants as tile
 use Rattle.task_board.specs.inside.Collected.{first_maps, span_begin, step_count, steps_told}
 use Rattle.task_board.specs.inside.Held.{IsBoard, Parts, state_in}
-use Rattle.task_board.specs.inside.Noted.{IsBefore, IsFirstNoted, IsNotBefore, Notes, note_by, part_note, place_note, tile_note}
+use Rattle.task_board.specs.inside.Noted.{IsBefore, IsFirstNoted, IsNotBefore, Notes, note_by, part_note, place_note}
 use Rattle.task_board.proofs.NoteLemmas.{over_below, tile_notes, work_note}
 use Rattle.task_board.proofs.PartOvers.{map_tells, places_in_order, tile_tells}
 use Rattle.task_board.proofs.SpanNotes.{AreTold, IsOverAt, done_at, first_notes, noted_over, over_noted, scene_at, stage_is_told, told_step}
@@ -221,5 +220,5 @@ module _ (p : PlanGraphValue) (program : Program) (known : Known) (planned : IsP
 pub board_tells : TellTheLeastOver → (x : Parts) → IsBoard x → ((t : ℕ) → t < x.plan.tasks → (state_in x).status t ≡ published) →
     IsToldAs x.program x.plan.span x.known x.over (stage_of x.program x.plan.span x.known).over (stage_of x.program x.plan.span x.known).maps
 board_tells law x b finished =
-    told_is_noted x.plan x.program x.known b.planned b.plan.plan_tasks law (state_in x).status finished x.over _ _ b.overs
-    (stage_is_told law x.program x.plan.span x.known b.planned.well_formed b.planned.spans)
+    told_is_noted x.plan x.program x.known b.of.planned b.plan.plan_tasks law (state_in x).status finished x.over _ _ b.overs
+    (stage_is_told law x.program x.plan.span x.known b.of.planned.well_formed b.of.planned.spans)

@@ -1,9 +1,9 @@
 -- Boards: what contracts see of one.
-use Rattle.std.specs.Prelude.{◌≡◌, ◌≢◌, ℕ, ◌<◌, ◌≤◌, true, List, [], ◌∷◌, ◌++◌}
+use Rattle.std.specs.Prelude.{◌≡◌, ◌≢◌, ℕ, ◌<◌, ◌≤◌, List, [], ◌∷◌, ◌++◌}
 use Rattle.core_model.specs.declared.step.Step.{Step}
 use Rattle.core_model.specs.Cores.{held, published, Core}
 use Rattle.core_model.specs.Runs.{after, Legal}
-use Rattle.core_model.specs.Steps.{AllSent, AllSettled, Claimable, HoldsNone}
+use Rattle.core_model.specs.Steps.{Claimable, HoldsNone}
 use Rattle.map_meaning.specs.declared.known.Known.{Known}
 use Rattle.map_meaning.specs.declared.program.Program.{Program}
 use Rattle.plan_graph.specs.PlanGraphs.{graph_of, PlanGraphValue}
@@ -24,9 +24,10 @@ abbrev pub new_board : PlanGraphValue → Program → Known → ℕ → BoardVal
 new_board plan program known workers =
     record { plan = plan; program = program; known = known; workers = workers; history = [] }
 
--- the plan is that of its span of the board's program, over what is known
-abbrev pub IsOfItsSpan : BoardValue → Type 0
-IsOfItsSpan b = IsPlanned b.plan.plan b.plan.span b.program b.known
+-- the plan is that of its span of the board's program, over what is known, along the drain maps that are known
+pub record IsOfItsSpan (b : BoardValue) : Type 0 where
+  pub planned : IsPlanned b.plan.plan b.plan.span b.program b.known
+  pub drains : b.plan.drains ≡ b.known.drains
 
 -- the state of the tasks after the board's history
 abbrev pub state_of : BoardValue → Core
@@ -66,10 +67,6 @@ NoneClaimable b = (t : ℕ) → t < b.plan.tasks → Claimable (graph_of b.plan)
 -- all tasks are published
 abbrev pub IsFinished : BoardValue → Type 0
 IsFinished b = (t : ℕ) → t < b.plan.tasks → (state_of b).status t ≡ published
-
--- the task is no transport's, or all its cells are settled and all its edges are sent
-abbrev pub IsDone : BoardValue → ℕ → Type 0
-IsDone b t = (graph_of b.plan).is_flow t ≡ true → AllSettled (graph_of b.plan) (state_of b) t × AllSent (graph_of b.plan) (state_of b) t
 
 -- the tile is the one that the task is to publish
 abbrev pub IsTileFor : BoardValue → ℕ → Tile → Type 0

@@ -1,4 +1,6 @@
 pub mod Boards
+pub mod Messages
+pub mod Tickets
 pub mod Claims
 pub mod Tiles
 pub mod inside

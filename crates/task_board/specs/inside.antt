@@ -1,3 +1,4 @@
+pub mod Channels
 pub mod Held
 pub mod Noted
 pub mod Collected

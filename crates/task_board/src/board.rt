@@ -2,11 +2,15 @@
 
 ghost use Rattle.std.specs.Prelude.{◌≡◌, ◌≤◌, IfOk, not};
 ghost use Rattle.std.specs.Arc.{arc_value};
+ghost use Rattle.flow_task.specs.Kits.{KnowsAll};
+ghost use Rattle.map_meaning.specs.Table.{is_transport};
 ghost use Rattle.plan_graph.specs.PlanGraphs.{IsPlan};
 ghost use Rattle.task_tiles.specs.TaskTiles.{IsPlanned};
 ghost use Rattle.task_board.specs.Boards.{IsLegal, IsOfItsSpan, new_board, state_of};
 
+use crate::channels::channels;
 use crate::fresh::{empties, kept_tasks, need_counts, reader_counts};
+use border_channel::Channel;
 use core_model::Step;
 use flow_task::FlowKit;
 use map_meaning::{Known, OverAt, Program};
@@ -34,6 +38,8 @@ pub struct Board<K: FlowKit> {
     pub(crate) kept: Vec<bool>,
     /// By task, its work while nobody holds it.
     pub(crate) works: Vec<Option<K::Work>>,
+    /// By channel, the messages on their way.
+    pub(crate) channels: Vec<Channel>,
     /// The steps that were made, with room for every run.
     pub(crate) history: Vec<Step>,
     /// The first of what the tiles of published tasks note.
@@ -41,7 +47,8 @@ pub struct Board<K: FlowKit> {
 }
 
 impl<K: FlowKit> Model for Board<K> {
-    ghost use Rattle.std.specs.Prelude.{length, vec_capacity};
+    ghost use Rattle.std.specs.Prelude.{map, vec_capacity};
+    ghost use Rattle.std.specs.Option.{option_map};
     ghost use Rattle.std.specs.Arc.{arc_value};
     ghost use Rattle.task_board.specs.Boards.{BoardValue};
     ghost use Rattle.task_board.specs.inside.Held.{IsBoard};
@@ -60,12 +67,14 @@ impl<K: FlowKit> Model for Board<K> {
       plan = arc_value b.plan;
       program = arc_value b.program;
       known = arc_value b.known;
+      knows = K.known b.kit;
       workers = b.workers;
       states = b.states;
       tiles = b.tiles.items;
       unread = b.unread.items;
       kept = b.kept.items;
-      works = length b.works.items;
+      works = map (option_map K.work_of) b.works.items;
+      channels = b.channels.items;
       history = b.history.items;
       room = vec_capacity b.history;
       over = b.over;
@@ -84,6 +93,8 @@ impl<K: FlowKit> Board<K> {
         workers: u32,
     ) -> Result<Board<K>, AllocError>
         requires plan { IsPlanned (arc_value plan).plan (arc_value plan).span (arc_value program) (arc_value known) }
+        requires drains { (arc_value plan).drains ≡ (arc_value known).drains }
+        requires kit { KnowsAll is_transport (K.known kit) }
         requires workers { workers ≤ 64 }
         ensures { IfOk result (λ board. board ≡ new_board (arc_value plan) (arc_value program) (arc_value known) workers) }
     {
@@ -94,6 +105,7 @@ impl<K: FlowKit> Board<K> {
         let unread = reader_counts(alloc, &plan)?;
         let kept = kept_tasks(alloc, &plan, &program)?;
         let works = empties(alloc, tasks)?;
+        let channels = channels(alloc, plan.rooms())?;
         let history = Vec::with_capacity(alloc, most)?;
         Ok(Board {
             kit,
@@ -106,13 +118,16 @@ impl<K: FlowKit> Board<K> {
             unread,
             kept,
             works,
+            channels,
             history,
             over: None,
         })
     }
 
     /// What computes transports.
-    pub fn kit(&self) -> K {
+    pub fn kit(&self) -> K
+        ensures { KnowsAll is_transport (K.known result) }
+    {
         self.kit
     }
 
@@ -120,7 +135,7 @@ impl<K: FlowKit> Board<K> {
     pub fn plan(&self) -> &Arc<PlanGraph>
         ensures value { arc_value result.now ≡ self.now.plan }
         ensures keeps { IsPlan self.now.plan }
-        ensures planned { IsOfItsSpan self.now }
+        ensures of { IsOfItsSpan self.now }
     {
         &self.plan
     }
@@ -170,6 +185,7 @@ impl<K: FlowKit> Drop for Board<K> {
             unread: _,
             kept: _,
             works: _,
+            channels: _,
             history: _,
             over: _,
         } = self;

@@ -3,8 +3,9 @@
 ghost use Rattle.std.specs.Prelude.{◌≡◌, ◌≤◌, false};
 ghost use Rattle.std.specs.Arc.{arc_value};
 ghost use Rattle.core_model.specs.declared.step.Step.TheVariants.{Publish as PublishStep, PutDown as PutDownStep};
-ghost use Rattle.task_board.specs.Boards.{HoldsTask, IsDone, IsFree, IsLegal, IsTileFor, state_of, board_with_step};
+ghost use Rattle.task_board.specs.Boards.{IsFree, IsLegal, IsTileFor, state_of, board_with_step};
 ghost use Rattle.task_board.specs.Claims.{ClaimGives};
+ghost use Rattle.task_board.specs.Tickets.{IsDone, IsGoodTicket, work_in};
 
 use crate::board::Board;
 use crate::noted::{earlier, noted};
@@ -20,7 +21,7 @@ impl<K: FlowKit> Board<K> {
     pub fn claim(&mut self, worker: u32) -> Claim<K>
         requires number { worker ≤ self.old.workers }
         requires free { IsFree self.old worker }
-        ensures gives { ClaimGives self.old worker result self.new }
+        ensures gives { ClaimGives K.work_of self.old worker result self.new }
         ensures legal { IsLegal self.new }
     {
         match self.states.claim(worker) {
@@ -39,8 +40,8 @@ impl<K: FlowKit> Board<K> {
     /// The holder of a task publishes it with its tile. Tiles that no task is to read any more, and that are not handed out, are
     /// let go.
     pub fn publish(&mut self, ticket: Ticket<K>, tile: Arc<Tile>)
-        requires holds { HoldsTask self.old ticket.worker ticket.task }
-        requires done { IsDone self.old ticket.task }
+        requires good { IsGoodTicket K.work_of self.old ticket }
+        requires done { IsDone self.old ticket.task (work_in K.work_of ticket) }
         requires tile { IsTileFor self.old ticket.task (arc_value tile) }
         ensures step { self.new ≡ board_with_step self.old (PublishStep ticket.worker ticket.task) }
         ensures legal { IsLegal self.new }
@@ -64,9 +65,9 @@ impl<K: FlowKit> Board<K> {
         self.history.push_reserved(Step::Publish { worker, task });
     }
 
-    /// The holder of a task puts it down unfinished. It can be claimed again.
+    /// The holder of a task puts it down unfinished, with its work. It can be claimed again.
     pub fn put_down(&mut self, ticket: Ticket<K>)
-        requires holds { HoldsTask self.old ticket.worker ticket.task }
+        requires good { IsGoodTicket K.work_of self.old ticket }
         requires can { (state_of self.old).has_put_down ticket.worker ≡ false }
         ensures step { self.new ≡ board_with_step self.old (PutDownStep ticket.worker ticket.task) }
         ensures legal { IsLegal self.new }

@@ -5,6 +5,7 @@ ghost use Rattle.std.specs.Arc.{arc_value};
 ghost use Rattle.core_model.specs.declared.step.Step.TheVariants.{Publish as PublishStep, PutDown as PutDownStep};
 ghost use Rattle.plan_graph.specs.PlanGraphs.{IsLocal};
 ghost use Rattle.task_board.specs.Boards.{Continues, HoldsTask, IsFinished, IsLegal, IsTileFor, NobodyHolds, state_of, board_with_step};
+ghost use Rattle.task_board.specs.Tickets.{IsGoodTicket};
 
 use crate::board::Board;
 use crate::computing::ComputesTasks;
@@ -47,7 +48,7 @@ fn work_on<K: FlowKit, C: ComputesTasks>(
     computing: &C,
     ticket: Ticket<K>,
 ) -> Result<(), AllocError>
-    requires holds { HoldsTask board.old ticket.worker ticket.task }
+    requires good { IsGoodTicket K.work_of board.old ticket }
     requires local { IsLocal board.old.plan }
     requires can { (state_of board.old).has_put_down ticket.worker ≡ false }
     ensures ok { OnOk result (board.new ≡ board_with_step board.old (PublishStep ticket.worker ticket.task)) }

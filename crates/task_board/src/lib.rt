@@ -3,12 +3,15 @@
 
 mod board;
 mod calls;
+mod channels;
 mod collect;
 mod computing;
 mod drive;
+mod flow_calls;
 mod fresh;
 mod inputs;
 mod jobs;
+mod laws;
 mod looks;
 mod noted;
 mod ticket;
@@ -16,5 +19,6 @@ mod unread;
 
 pub use board::Board;
 pub use computing::ComputesTasks;
-pub use jobs::{BoardPlan, ClaimTask};
-pub use ticket::{Claim, Ticket};
+pub use jobs::{BoardPlan, ClaimTask, TakeOrPark};
+pub use laws::good_tickets_stay_good;
+pub use ticket::{Claim, Ticket, Waiting};

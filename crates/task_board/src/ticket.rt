@@ -1,5 +1,6 @@
 //! Tickets: what a worker has that holds a task.
 
+use border_channel::Message;
 use flow_task::FlowKit;
 
 /// The task that a worker holds, and its work if it was begun. It is spent by the call that lets go of the task.
@@ -17,4 +18,12 @@ pub enum Claim<K: FlowKit> {
     Idle { holder: u32, task: u32 },
     /// All tasks are published.
     Finished,
+}
+
+/// What waiting for a message gives.
+pub enum Waiting<K: FlowKit> {
+    /// One waited already, and was taken.
+    Took(Ticket<K>, Message),
+    /// None waits, and the task was parked.
+    Parked,
 }

@@ -47,7 +47,8 @@ use Rattle.task_tiles.specs.FlowTiles.{operand_tile}
 use Rattle.task_tiles.proofs.Callers.{IsStepOf}
 use Rattle.task_tiles.specs.TaskTiles.{IsWorkTile, onward_done, span_section, tile_part}
 use Rattle.task_tiles.specs.declared.tile.Tile.TheVariants as published
-use Rattle.tile_tasks.specs.FlowLaws.{GiveTheirTiles, task_operand}
+use Rattle.task_tiles.specs.FlowTiles.{task_operand}
+use Rattle.tile_tasks.specs.FlowLaws.{GiveTheirTiles}
 use Rattle.tile_tasks.proofs.DoneKnown.{agrees}
 use Rattle.tile_tasks.proofs.FlowLemmas.{known_codes_are}
 use Rattle.tile_tasks.proofs.FlowTasks.{flow_task_is, flow_work}
@@ -95,7 +96,7 @@ module _ (program : Program) (known : Known) (g : Tiling) (step tile : ℕ) (don
 
 -- ---- the law
 
-flow_rule : (q : FlowOp) → rule_of (op.Flow q) ≡ rule.Along q
+pub flow_rule : (q : FlowOp) → rule_of (op.Flow q) ≡ rule.Along q
 unfolding rule_of
 flow_rule q = refl
 

@@ -196,6 +196,29 @@ flow_task_is plan s program known t planned below flows =
       class_is = flow_class (op_class l.operation.op) (subst (λ (w : Work). SuitsClass (op_class l.operation.op) w) work_is is.suits);
     }
 
+-- the transport that a task is of is that of its operation, along the operation's drain map
+pub transport_of_task : (plan : PlanValue) (s : Span) (program : Program) (known : Known) (t f : ℕ) (o : Operation) (q : FlowOp) → IsPlanned plan s program known → t < length plan.tasks → is_flow_work (task_at plan t).work ≡ true →
+    f < length plan.flows → t ≡ (transport_at plan f).first + (task_at plan t).tile → slice_get (span_section program s) (task_at plan t).operation ≡ Some o → o.op ≡ op.Flow q →
+    ((transport_at plan f).op ≡ q) × ((transport_at plan f).drain ≡ o.drain)
+transport_of_task plan s program known t f o q planned low flows below first there transport =
+    let g = plan.tiling in
+    let h = transport_at plan f in
+    let laid = laid_in program s in
+    let is = flow_task_is plan s program known t planned low flows in
+    let of : IsLaidFlow (tile_count g) laid h =
+    subst (λ (p : PlanValue). IsLaidFlow (tile_count g) laid (transport_at p f)) (sym planned.plans)
+    (plan_flow program s g f (subst (λ (p : PlanValue). f < length p.flows) planned.plans below)) in
+    let k = of.of in
+    let start = tasks_in (tile_count g) (take of.place laid) in
+    let tile_is : (task_at plan t).tile ≡ is.tile = ap (λ (x : Task). x.tile) is.task in
+    let number : t ≡ start + is.tile = first ∙ (ap (λ (n : ℕ). n + (task_at plan t).tile) of.first ∙ ap (λ (n : ℕ). start + n) tile_is) in
+    let stands : task_at plan t ≡ task_for k work.Flow is.tile =
+    ap (task_at plan) number ∙ (ap (λ (p : PlanValue). task_at p (start + is.tile)) planned.plans ∙ flow_task_at program s g of.place k is.tile of.there (ap op_class of.op_is) is.below) in
+    let k_there = (laid_is program s of.place k planned.spans of.there).there in
+    let same : k.operation ≡ o = one_there (span_section program s) k.number (task_at plan t).operation k.operation o (ap (λ (x : Task). x.operation) (sym stands)) k_there there in
+    let ops : op.Flow h.op ≡ op.Flow q = sym of.op_is ∙ (ap (λ (p : Operation). p.op) same ∙ transport) in
+    (cc, of.drain ∙ ap (λ (p : Operation). p.drain) same)
+
 pub beginning : {A : Type 0} (f : A → Tile) → AreCutsOfMaps → (plan : PlanValue) (s : Span) (program : Program) (known : Known) (t : ℕ) (edges : List Edge) (into out : List ℕ) (xs : List A) → IsPlanned plan s program known → t < length plan.tasks →
     is_flow_work (task_at plan t).work ≡ true → AreTaskEdges plan known.drains t edges into out → AllZip (λ a n. IsTaskTile plan s program known n (f a)) xs (needs_at plan t) → IsBeginning plan s program known t edges into out (map f xs)
 beginning f law plan s program known t edges into out xs planned below flows are all =

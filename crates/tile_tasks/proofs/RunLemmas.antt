@@ -12,10 +12,10 @@ use Rattle.region_meaning.specs.declared.area.AreaOp.{AreaOp}
 use Rattle.tile_map.specs.Tiles.{rect_of, tile_count}
 use Rattle.tile_map.specs.declared.tiling.Tiling.{Tiling}
 use Rattle.map_meaning.specs.Evaluation.{Done}
-use Rattle.map_meaning.specs.Programs.{IsOperation, IsStepOperation, IsWellFormed}
+use Rattle.map_meaning.specs.Programs.{IsOperation, IsStepOperation, IsWellFormed, kinds_of}
 use Rattle.map_meaning.specs.Rules.{reach_of}
 use Rattle.map_meaning.specs.Spans.{scene_of}
-use Rattle.map_meaning.specs.Table.{goes_along_drains}
+use Rattle.map_meaning.specs.Table.{HasKinds, goes_along_drains, map_row, row_of}
 use Rattle.map_meaning.specs.declared.known.Known.{Known}
 use Rattle.map_meaning.specs.declared.known.Span.{Span}
 use Rattle.map_meaning.specs.declared.known.Span.TheVariants as span
@@ -47,7 +47,7 @@ use Rattle.task_tiles.specs.TaskTiles.{IsPartialTile, IsPlanned, IsTaskTile, cla
 use Rattle.task_tiles.proofs.Callers.{IsStepOf}
 use Rattle.task_tiles.proofs.OnwardLemmas.{IsReadBefore}
 use Rattle.tile_tasks.specs.inside.Areas.{ArePartials, IsZone, ReadsTotal, ReadsZones, class_operand, value_operand, zone_op}
-use Rattle.tile_tasks.specs.inside.Flows.{ReadsFlow}
+use Rattle.tile_tasks.specs.inside.Flows.{HasScalars, ReadsFlow}
 use Rattle.tile_tasks.specs.inside.Tasks.{AreHandedIn, IsTaskAt, ReadsAround, ReadsEach, many_for}
 use Rattle.tile_tasks.specs.inside.Tiles.{tile_handed}
 use Rattle.tile_tasks.specs.inside.Runs.{CanRun, ReadsFor, SuitsScope, halo_numbers}
@@ -237,15 +237,19 @@ module _ (law : AreCutsOfMaps) (plan : PlanValue) (s : Span) (program : Program)
     drain = λ along. drain_known program s known l.step o.drain (is.drain along);
   }
 
+  -- the operands of a transport's task are scalars
+  pub flow_scalars : HasScalars program known l.step done o.a × HasScalars program known l.step done o.b
+  flow_scalars =
+      let scene = scene_of program.inputs known l.step in
+      (operand_scalars program scene done o.a is.sound.a, operand_scalars program scene done o.b is.sound.b)
+
+  -- its kinds are those of its row
+  pub operation_kinds : HasKinds (map_row (row_of o.op)) (kinds_of program o) o.kind
+  operation_kinds = is.one.kinds
+
   -- what a task of a transport reads
   pub flow_reads : (needs : List ℕ) (ts : List Tile) → needs ≡ reads_of y l (tile ∷ []) → AreTold Tells needs ts → ReadsFlow program s known g l.step tile o ts done
-  flow_reads needs ts are told =
-      let scene = scene_of program.inputs known l.step in
-      record {
-        each = each_read (tile ∷ []) needs ts own are told;
-        a = operand_scalars program scene done o.a is.sound.a;
-        b = operand_scalars program scene done o.b is.sound.b;
-      }
+  flow_reads needs ts are told = record { each = each_read (tile ∷ []) needs ts own are told; a = flow_scalars.0; b = flow_scalars.1 }
 
   -- the drain map of one that goes along drains
   pub flow_drain : goes_along_drains o.op ≡ true → HasDrainMap known o.drain

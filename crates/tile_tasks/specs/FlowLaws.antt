@@ -2,29 +2,23 @@
 use Rattle.std.specs.Prelude.{◌≡◌, ℕ, ◌<◌, true, List, length}
 use Rattle.drain_meaning.specs.declared.op.FlowOp.{FlowOp}
 use Rattle.drain_meaning.specs.Equations.{orient_of, transport_of}
+use Rattle.drain_meaning.specs.Flows.{FlowFits}
 use Rattle.border_channel.specs.declared.edge.Message.{Message}
+use Rattle.border_channel.specs.Edges.{border_edges_of, edge_at}
 use Rattle.border_channel.specs.Laws.{StandsForWhole}
+use Rattle.border_channel.specs.Loads.{load_of}
 use Rattle.border_channel.specs.Locals.{local_part}
 use Rattle.border_channel.specs.Settled.{all_settled}
 use Rattle.border_channel.specs.TileFlows.{with_taken}
 use Rattle.flow_task.specs.Works.{TileWork}
-use Rattle.map_meaning.specs.Evaluation.{operand_cell}
-use Rattle.map_meaning.specs.Maps.{CellAt}
-use Rattle.map_meaning.specs.Spans.{scene_of}
 use Rattle.map_meaning.specs.declared.known.Known.{Known}
 use Rattle.map_meaning.specs.declared.known.Span.{Span}
-use Rattle.map_meaning.specs.declared.program.Operand.{Operand}
 use Rattle.map_meaning.specs.declared.program.Program.{Program}
 use Rattle.plan_graph.specs.Graphs.{is_flow_work}
 use Rattle.task_graph.specs.Plans.{PlanValue, task_at}
-use Rattle.task_tiles.specs.FlowTiles.{IsFlowBegun}
-use Rattle.task_tiles.specs.TaskTiles.{IsPlanned, IsTaskTile, onward_done}
+use Rattle.task_tiles.specs.FlowTiles.{IsFlowBegun, StandsForEdge, task_operand}
+use Rattle.task_tiles.specs.TaskTiles.{IsPlanned, IsTaskTile}
 use Rattle.task_tiles.specs.declared.tile.Tile.TheVariants.{Part}
-
--- the cells of an operand of a task over the whole map
-abbrev pub task_operand : PlanValue → Span → Program → Known → ℕ → Operand → CellAt
-task_operand plan s program known t operand =
-    let step = (task_at plan t).step in operand_cell (scene_of program.inputs known step) (onward_done program s known step) operand
 
 -- The work that a task begins, once it has taken messages that are what flows over their edges on the whole map, and all cells of its
 -- tile are settled, has the results of the tile that the task is to publish.
@@ -37,3 +31,12 @@ GiveTheirTiles =
     (task_operand plan s program known t begun.operation.b) →
     all_settled (orient_of w.which) (with_taken w.of taken) ≡ true →
     IsTaskTile plan s program known t (Part (local_part (transport_of w.which) (with_taken w.of taken)))
+
+-- what a message that stands for its edge brings fits the load of the edge's source
+abbrev pub MessagesFit : Type 0
+MessagesFit =
+    (plan : PlanValue) (s : Span) (program : Program) (known : Known) (t : ℕ) (x : Message) →
+    IsPlanned plan s program known → t < length plan.tasks → is_flow_work (task_at plan t).work ≡ true →
+    (stands : StandsForEdge plan s program known t x) →
+    FlowFits x.flow (load_of (orient_of stands.op) stands.drain
+    (edge_at (border_edges_of stands.drain plan.tiling (orient_of stands.op)) x.edge).source)

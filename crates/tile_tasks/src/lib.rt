@@ -12,5 +12,5 @@ mod run;
 mod zones;
 
 pub use flow::begin_flow;
-pub use laws::settled_works_give_their_tiles;
+pub use laws::{messages_fit_loads, settled_works_give_their_tiles};
 pub use run::run_task;

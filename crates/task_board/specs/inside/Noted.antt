@@ -1,5 +1,5 @@
 -- What the tiles of tasks note of results that are out of range, and the first of these notes.
-use Rattle.std.specs.Prelude.{◌≡◌, ◌⊎◌, ℕ, ◌+◌, ◌*◌, ◌/◌, ◌%◌, ◌<◌, List, Option, Some, None, slice_get, IfSome, ⊤}
+use Rattle.std.specs.Prelude.{◌≡◌, ◌⊎◌, ℕ, ◌+◌, ◌/◌, ◌%◌, ◌<◌, Option, Some, None, slice_get, IfSome}
 use Rattle.core_model.specs.Cores.{Status, published}
 use Rattle.tile_map.specs.Rects.{place_in}
 use Rattle.tile_map.specs.Tiles.{rect_of}

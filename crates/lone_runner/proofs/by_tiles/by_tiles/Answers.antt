@@ -26,6 +26,13 @@ make-requires-clause-plan g c =
     (is_planned p c.args.span program known c.args.tiling.now c.requires.program c.requires.span c.requires.known c.requires.rows c.requires.cols
     c.in_ok-plan.ensures.span of)
 
+pub make-requires-clause-drains : goal.make-requires-clause-drains
+make-requires-clause-drains g c =
+    let p : PlanGraphValue = c.in_ok-plan.plan in
+    let known : TheKnown = c.args.known.now.value in
+    let of : IsPlanOf c.deref.result.now known c.args.tiling.now p = subst (λ (y : TheKnown). IsPlanOf c.deref.result.now y c.args.tiling.now p) c.deref-2.ensures c.in_ok-plan.ensures.of in
+    rw (c.in_ok-plan-2.ensures.ok, c.in_ok-known.ensures) of.drains
+
 pub drive_alone-requires-clause-local : goal.drive_alone-requires-clause-local
 drive_alone-requires-clause-local g c =
     subst IsLocal (sym (ap (λ (b : BoardValue). b.plan) c.in_ok-board.ensures ∙ c.in_ok-plan-2.ensures.ok)) c.in_ok-plan.ensures.local

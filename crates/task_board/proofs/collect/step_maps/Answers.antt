@@ -1,16 +1,15 @@
-use Rattle.std.proofs.Common.{◌≡◌, ℕ, ◌+◌, ◌<◌, ◌++◌, Bool, true, false, List, length, take, get_or, ap, sym, ◌∙◌, subst, arith, Some, slice_get, w64, Fits}
+use Rattle.std.proofs.Common.{◌≡◌, ℕ, ◌+◌, ◌<◌, false, List, length, take, get_or, ap, ◌∙◌, subst, arith, w64, Fits}
 use Rattle.std.proofs.lemmas.Option.{slice_get-get_or}
 use Rattle.tile_map.specs.declared.tiling.Tiling.{Tiling}
 use Rattle.tile_map.specs.Tiles.{tile_count}
 use Rattle.cell_values.specs.declared.kind.Kind.TheVariants.{Boolean}
-use Rattle.map_meaning.specs.declared.known.StepMap.{StepMap}
 use Rattle.map_meaning.specs.declared.op.Op.TheVariants.{CopyOf}
 use Rattle.map_meaning.specs.declared.program.Operand.TheVariants.{Unused}
 use Rattle.map_meaning.specs.declared.program.Operation.{Operation}
 use Rattle.map_meaning.specs.Maps.{WholeMap, nth}
 use Rattle.task_graph.specs.Classes.{before_value, op_class, tasks_for}
 use Rattle.task_graph.specs.Counts.{tasks_of}
-use Rattle.task_board.specs.inside.Collected.{AreTilesOfMap, HaveTiles, with_kept_map}
+use Rattle.task_board.specs.inside.Collected.{AreTilesOfMap, with_kept_map}
 use Rattle.task_board.proofs.MapLemmas.{before_fewer, tasks_fewer, tasks_next, with_next_map}
 use Rattle.task_board.proofs.collect.step_maps.Goals as goal
 

@@ -1,4 +1,4 @@
-use Rattle.std.proofs.Common.{◌≡◌, ℕ, ◌<◌, List, get_or, length, sym, ap, ◌∙◌, subst, arith, Some}
+use Rattle.std.proofs.Common.{◌≡◌, ℕ, ◌<◌, length, sym, ap, ◌∙◌, subst, arith, Some}
 use Rattle.tile_map.specs.Rects.{cell_count}
 use Rattle.tile_map.specs.Tiles.{rect_of, tile_count}
 use Rattle.tile_map.specs.declared.tiling.Tiling.{Tiling}

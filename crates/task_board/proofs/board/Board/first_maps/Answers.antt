@@ -1,4 +1,4 @@
-use Rattle.std.proofs.Common.{◌≡◌, ℕ, ◌+◌, ◌<◌, ◌≤◌, ◌++◌, List, length, ap, sym, ◌∙◌, subst, arith, add-one}
+use Rattle.std.proofs.Common.{◌≡◌, ℕ, ◌+◌, ◌<◌, ◌++◌, List, length, ap, sym, ◌∙◌, subst, arith, add-one}
 use Rattle.std.specs.Arc.{arc_value}
 use Rattle.tile_map.specs.declared.tiling.Tiling.{Tiling}
 use Rattle.tile_map.specs.Tiles.{tile_count}
@@ -38,7 +38,7 @@ step_maps-requires-clause-tasks g' c =
     ∙ ap (λ (h : Tiling). tasks_in (tile_count g) (laid_before program s n) + tasks_of (tile_count h) c.operations_of-operations.result.now) tiling
     ∙ ap (λ (l : List Operation). tasks_in (tile_count g) (laid_before program s n) + tasks_of (tile_count g) l) ops in
     let few = tasks_few program s g n lt in
-    let plans = ap (λ (q : PlanValue). length q.tasks) b.planned.plans in
+    let plans = ap (λ (q : PlanValue). length q.tasks) b.of.planned.plans in
     let all = b.plan.plan_tasks in let low = b.plan.few_tasks in
     omega arith
 
