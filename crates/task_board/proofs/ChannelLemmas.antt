@@ -22,7 +22,8 @@ use Rattle.task_board.specs.Boards.{BoardValue, state_of}
 use Rattle.task_board.specs.Messages.{StandsOn}
 use Rattle.task_board.specs.inside.Channels.{Carries, message_number, numbers_from, queue_at}
 
-map_snoc : {A B : Type 0} (f : A → B) (xs : List A) (x : A) → map f (xs ++ x ∷ []) ≡ map f xs ++ f x ∷ []
+-- one item more of a list that is mapped
+pub map_snoc : {A B : Type 0} (f : A → B) (xs : List A) (x : A) → map f (xs ++ x ∷ []) ≡ map f xs ++ f x ∷ []
 map_snoc f [] x = refl
 map_snoc f (y ∷ ys) x = ap (λ (l : List _). f y ∷ l) (map_snoc f ys x)
 

@@ -302,7 +302,7 @@ module _ {x : Parts} (b : IsBoard x) (t : ℕ) (lt : t < x.plan.tasks) (flow : (
     places_are = ap (λ (k : Tiling). places_of k.cols (rect_of k w.of.tile)) tiling_is ∙ ap (λ (k : ℕ). places_of g.cols (rect_of g k)) tile_is
 
     -- the work stands for the whole map's operands
-    whole : StandsForWhole tr w.of a b'
+    pub whole : StandsForWhole tr w.of a b'
     unfolding flows_out
     whole = record {
       a_cut = ap (λ (k : TileWork FlowOp). k.of.a) h.underway.begun.is.is ∙ ap (map a) (sym places_are);

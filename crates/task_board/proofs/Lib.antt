@@ -1,11 +1,11 @@
 pub mod Lists
 pub mod WorkLemmas
-pub mod TicketLemmas
 pub mod ReadLemmas
 pub mod BoardLemmas
 pub mod FoundLemmas
 pub mod HistoryLemmas
 pub mod ChannelLemmas
+pub mod TicketLemmas
 pub mod TileLemmas
 pub mod FlowLemmas
 pub mod SendLemmas

@@ -1,5 +1,5 @@
 -- Boards: what contracts see of one.
-use Rattle.std.specs.Prelude.{◌≡◌, ◌≢◌, ℕ, ◌<◌, ◌≤◌, List, [], ◌∷◌, ◌++◌}
+use Rattle.std.specs.Prelude.{◌≡◌, ◌≢◌, ℕ, ◌<◌, ◌≤◌, false, true, List, [], ◌∷◌, ◌++◌}
 use Rattle.core_model.specs.declared.step.Step.{Step}
 use Rattle.core_model.specs.Cores.{held, published, Core}
 use Rattle.core_model.specs.Runs.{after, Legal}
@@ -55,6 +55,12 @@ pub record HoldsTask (b : BoardValue) (w t : ℕ) : Type 0 where
 -- the worker holds no task
 abbrev pub IsFree : BoardValue → ℕ → Type 0
 IsFree b w = HoldsNone (graph_of b.plan) (state_of b) w
+
+-- each worker that holds a transport's task has put none down
+abbrev pub CanBePutDown : BoardValue → Type 0
+CanBePutDown b =
+    (w t : ℕ) → t < b.plan.tasks → (state_of b).status t ≡ held w → (graph_of b.plan).is_flow t ≡ true →
+    (state_of b).has_put_down w ≡ false
 
 -- no worker holds a task
 abbrev pub NobodyHolds : BoardValue → Type 0

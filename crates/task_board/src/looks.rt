@@ -2,8 +2,8 @@
 
 ghost use Rattle.std.specs.Prelude.{◌≡◌, MatchBool, MatchOption};
 ghost use Rattle.core_model.specs.Steps.{Enabled};
-ghost use Rattle.plan_graph.specs.PlanGraphs.{graph_of, IsLocal};
-ghost use Rattle.task_board.specs.Boards.{IsFinished, IsLegal, state_of};
+ghost use Rattle.plan_graph.specs.PlanGraphs.{graph_of};
+ghost use Rattle.task_board.specs.Boards.{CanBePutDown, IsFinished, IsLegal, state_of};
 
 use crate::board::Board;
 use core_model::Step;
@@ -24,14 +24,21 @@ impl<K: FlowKit> Board<K> {
         }
     }
 
-    /// An enabled step, where there is one.
+    /// An enabled step; None exactly where all tasks are published. What is left to do for a transport's task is known to its
+    /// work, which its holder has, so such a task can but be put down.
     pub fn next_step(&self) -> Option<Step>
-        requires { IsLocal self.now.plan }
+        requires { CanBePutDown self.now }
         ensures step { MatchOption result (IsFinished self.now) (λ x. Enabled (graph_of self.now.plan) (state_of self.now) self.now.workers x) }
         ensures legal { IsLegal self.now }
     {
         match self.states.holder() {
-            Some((worker, task)) => Some(Step::Publish { worker, task }),
+            Some((worker, task)) => {
+                if self.plan.is_flow(task) {
+                    Some(Step::PutDown { worker, task })
+                } else {
+                    Some(Step::Publish { worker, task })
+                }
+            }
             None => match self.states.task_to_claim() {
                 Some(task) => Some(Step::Claim { worker: 0, task }),
                 None => None,
