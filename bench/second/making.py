@@ -31,6 +31,8 @@ STRAYS = (
     "catchment(L0, S0)", "upstream(S0, 1)", "maptotal(N0)", "areaarea(S0)", "windowmajority(S0, 3)", "boolean(L0)",
     "directional(L0)", "if(B0 then L0)", "L0 == L0", "cover(L0, 5)",
 )
+# first lines that are comments alone
+NO_MEANS = ("", "", "", "# a model\n", "#! timeoutput means\n", " #! timeoutput mean\n", "#! timeoutput mean \n")
 WRONG_LENGTHS = ("2", "0", "33", "1.5", "-3", "A", "(3+0)", "time()")
 
 
@@ -64,6 +66,7 @@ class Making:
         self.numbers, self.stacks = [], []
         self.known, self.section, self.reported, self.count = {}, "initial", set(), 0
         self.steps = draw.choice((0, 0, 1, 2, 3, 5))
+        self.mean = draw.random() < 0.3
 
     def chance(self, share):
         return self.draw.random() < share
@@ -266,7 +269,7 @@ class Making:
 
     def sample(self):
         self.count += 1
-        kind = self.draw.choice("BNOSD")
+        kind = "S" if self.mean and not self.slips(0.1) else self.draw.choice("BNOSD")
         ids = self.draw.choice(self.inputs["N"] + self.inputs["O"] + self.inputs["B"])
         self.state(f"X{self.count}", f"timeoutput({ids}, {self.value(kind, self.draw.randint(0, 2), kind == 'S')})", None)
 
@@ -312,7 +315,8 @@ class Making:
         if self.slips(0.05):
             cut = self.draw.randrange(len(body))
             body = body[:cut] + self.draw.choice((";", "", "$", "(", "L0", " 1e", "#")) + body[cut + 1:]
-        return f"binding {' '.join(self.entries)}\nareamap {self.area()};\n{timer}\n{body}\n"
+        first = f"#! timeoutput mean{self.draw.choice((chr(10), chr(13) + chr(10)))}" if self.mean else self.draw.choice(NO_MEANS)
+        return f"{first}binding {' '.join(self.entries)}\nareamap {self.area()};\n{timer}\n{body}\n"
 
 
 def make(draw):

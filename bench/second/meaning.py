@@ -253,6 +253,8 @@ class Meaning:
         if word == "timeoutput":
             if len(operands) != 2:
                 raise Wrong("kind-mismatch")
+            if self.script.mean:
+                return self.fit(word, operands, [CLASSES, "S"], "S")
             fitted = self.fit(word, operands, [CLASSES, "BNOSD="], "=")
             fitted.operations -= 1
             return fitted

@@ -87,6 +87,10 @@ def window(word, size, length, cells):
         yield _over(word, near)
 
 
+def mean(cells):
+    return _over("average", cells)
+
+
 def areas(word, classes, cells):
     members = {}
     for one, value in zip(classes, cells):

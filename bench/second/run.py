@@ -129,7 +129,7 @@ class Run:
                 if form == "series":
                     _, _, columns, kept = next(samples)
                     ids = self.inputs[tree.operands[0].value]
-                    rows.append((kept, [cells[ids.index(one)] for one in columns]))
+                    rows.append((kept, [self.sampled(ids, cells, one) for one in columns]))
                 continue
             self.values[statement.name] = cells
             if form in ("grid", "stack"):
@@ -138,6 +138,11 @@ class Run:
             kept.append((step, row))
         for file, kind, cells in reports:
             self.put(file, write_grid(kind, self.area, cells))
+
+    def sampled(self, ids, cells, one):
+        if self.script.mean:
+            return ops.mean([cell for own, cell in zip(ids, cells) if own == one])
+        return cells[ids.index(one)]
 
     def read_stacks(self):
         self.stacks = {}

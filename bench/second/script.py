@@ -9,6 +9,7 @@ from .texts import WORDS, DECIMAL
 RESERVED = set("binding areamap timer initial dynamic report if then else and or xor not eq ne lt le gt ge div idiv mod".split())
 BLANK = re.compile(rb"(?:[ \t\r\n]|#[^\n]*)*")
 PLAIN = re.compile(rb"[A-Za-z][A-Za-z0-9_]*|(?:\d+\.?\d*|\.\d+)(?:[eE][+-]?\d{1,6})?|[=!<>]=|[;=:,()+\-*/<>&|!~]")
+MEAN = re.compile(rb"#! timeoutput mean(?:\n|\r\n|\Z)")
 RUN = re.compile(rb"[A-Za-z0-9_.+\-]+")
 MOST_PARTS, MOST_OF_A_KIND, LONGEST = 256, 1000, 64
 COMPARISONS = {"==": "==", "eq": "==", "!=": "!=", "ne": "!=", "<": "<", "lt": "<", "<=": "<=", "le": "<=",
@@ -20,7 +21,7 @@ Token = namedtuple("Token", "at kind text")  # kind: word, number, symbol, file,
 # `at` and `end` are the bytes where one begins and ends; `body` is where the section behind the area map may begin.
 Binding = namedtuple("Binding", "name target is_number kind at end")
 Statement = namedtuple("Statement", "report name tree section at end")
-Script = namedtuple("Script", "bindings area body steps statements")
+Script = namedtuple("Script", "bindings area body steps statements mean")
 
 
 class Name(namedtuple("Name", "text")):
@@ -149,7 +150,7 @@ class Reader:
             self.section(statements, "dynamic")
         if self.look().kind != "end":
             self.wrong()
-        return Script(bindings, area, body, steps, statements)
+        return Script(bindings, area, body, steps, statements, bool(MEAN.match(self.text)))
 
     def entry(self):
         at = self.look().at

@@ -21,7 +21,7 @@ use Rattle.script_types.specs.Lowered.{Shown, as_shown}
 use Rattle.run_session.specs.declared.inputs.Inputs.{Inputs}
 use Rattle.run_session.specs.declared.samples.Sample.{Sample}
 use Rattle.run_session.specs.Samples.{Sampled, all_begun, begun, is_sample_form, sample_begun}
-use Rattle.run_session.specs.inside.Outputs.{AreBegun, IsKeptFor, SampleFits, operand_input}
+use Rattle.run_session.specs.inside.Outputs.{AreBegun, IsKeptFor, ids_of, SampleFits, operand_input}
 use Rattle.run_session.specs.inside.Parts.{AreInputsOf}
 use Rattle.run_session.specs.inside.Standings.{IsSample, sampled_of}
 use Rattle.run_session.proofs.Lists.{zip_push}
@@ -46,6 +46,9 @@ module _ (places : ℕ) (uses : List InputUse) (maps : List WholeMap) (before : 
   abbrev inputs : List WholeMap
   inputs = at_inputs is_grid_role [] uses maps
 
+  abbrev ids_by : OutputUse → WholeMap
+  ids_by o = ids_of inputs o.kind
+
   -- one more time series
   pub sample_more : (ids : ℕ) (s : Sample) → output.kind ≡ IsSampleKind ids → sampled_of s ≡ sample_begun inputs ids (as_shown output) → IsKeptFor uses output s → IsSample places s → AreBegun places uses maps (before ++ output ∷ []) (samples ++ s ∷ [])
   sample_more ids s is seen kept sample =
@@ -55,6 +58,8 @@ module _ (places : ℕ) (uses : List InputUse) (maps : List WholeMap) (before : 
         seen = map_push sampled_of samples s ∙ (ap (λ xs. xs ++ sampled_of s ∷ []) are.seen ∙ (ap (λ ys. all_begun inputs (map as_shown before) ++ ys) one ∙
             (sym (begun_push inputs (map as_shown before) (as_shown output)) ∙ ap (all_begun inputs) (sym (map_push as_shown before output)))));
         kept = subst (λ list. AllZip (IsKeptFor uses) list (samples ++ s ∷ [])) (sym (filter-append is_sample before (output ∷ []) ∙ ap (λ more. filter is_sample before ++ more) last)) (zip_push (IsKeptFor uses) (filter is_sample before) samples output s are.kept kept);
+        ids_are = map_push (λ (x : Sample). x.ids) samples s ∙ (ap (λ xs. xs ++ s.ids ∷ []) are.ids_are ∙ (ap (λ x. map ids_by (filter is_sample before) ++ x ∷ []) (ap (λ (x : Sampled). x.ids) seen ∙ ap (ids_of inputs) (sym is)) ∙
+            (sym (map_push ids_by (filter is_sample before) output) ∙ ap (map ids_by) (sym (filter-append is_sample before (output ∷ []) ∙ ap (λ more. filter is_sample before ++ more) last)))));
         each = All-push (IsSample places) samples s are.each sample;
       }
 
@@ -66,6 +71,7 @@ module _ (places : ℕ) (uses : List InputUse) (maps : List WholeMap) (before : 
         seen = are.seen ∙ (sym (append-nil (all_begun inputs (map as_shown before))) ∙ (ap (λ ys. all_begun inputs (map as_shown before) ++ ys) (sym (none output.kind is)) ∙
             (sym (begun_push inputs (map as_shown before) (as_shown output)) ∙ ap (all_begun inputs) (sym (map_push as_shown before output)))));
         kept = subst (λ list. AllZip (IsKeptFor uses) list samples) (sym (filter-append is_sample before (output ∷ []) ∙ (ap (λ more. filter is_sample before ++ more) last ∙ append-nil (filter is_sample before)))) are.kept;
+        ids_are = are.ids_are ∙ ap (map ids_by) (sym (filter-append is_sample before (output ∷ []) ∙ (ap (λ more. filter is_sample before ++ more) last ∙ append-nil (filter is_sample before))));
         each = are.each;
       }
     where

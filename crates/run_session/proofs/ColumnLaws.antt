@@ -13,11 +13,11 @@ use Rattle.run_session.proofs.Columns.{AscendAbove, Compared, IsLess, IsMore, Is
 -- ---- membership
 
 -- an item is one of a list
-abbrev In : {X : Type 0} → X → List X → Type 0
+abbrev pub In : {X : Type 0} → X → List X → Type 0
 In x [] = ⊥
 In x (y ∷ ys) = (x ≡ y) ⊎ In x ys
 
-contains_in : {X : Type 0} (ys : List X) (x : X) → Contains ys x → In x ys
+pub contains_in : {X : Type 0} (ys : List X) (x : X) → Contains ys x → In x ys
 contains_in [] x c = absurd (omega (arith, c.1))
 contains_in (y ∷ ys) x c = by (λ c. contains_in ys x c) c.0 c.1 c.2
   where

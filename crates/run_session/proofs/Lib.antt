@@ -10,6 +10,8 @@ pub mod InputPlaces
 pub mod InputsMore
 pub mod KeptMaps
 pub mod Lists
+pub mod MeanLaws
+pub mod MeanReports
 pub mod PlanTally
 pub mod Rest
 pub mod Search

@@ -23,15 +23,15 @@ use Rattle.map_meaning.specs.Programs.{is_grid_role, is_initial_grid, is_stack_g
 use Rattle.map_meaning.specs.Spans.{at_inputs}
 use Rattle.map_meaning.specs.StackNames.{stack_file}
 use Rattle.script_types.specs.Lowered.{as_shown}
-use Rattle.script_types.specs.Values.{Written, done_steps, is_output_of, section_at, written}
+use Rattle.script_types.specs.Values.{Written, done_steps, is_output_of, section_at}
 use Rattle.run_session.specs.declared.frame.Frame.{Frame}
 use Rattle.run_session.specs.declared.inputs.Inputs.{Inputs}
 use Rattle.run_session.specs.declared.stacks.StackUse.{StackUse}
 use Rattle.run_session.specs.Ends.{Missing, ScriptEnd, TooLong}
-use Rattle.run_session.specs.Evaluation.{scenes_over}
+use Rattle.run_session.specs.Evaluation.{input_maps, scenes_over}
 use Rattle.run_session.specs.Samples.{Sampled, all_begun, begun, is_sample_form, series_text, with_rows}
 use Rattle.run_session.specs.Steps.{Plan, Standing, StepsEnd, evaluated_run, grid_run, grids_among, map_run, next_step, one_more_grid, or_end, or_input, or_overflow, or_size, or_steps_end, plan_run, report_file, report_run, rows_among, samples_by, series_run, standing_at_start, step_run, steps_and_series, steps_run}
-use Rattle.run_session.specs.inside.Standings.{program_plan}
+use Rattle.run_session.specs.inside.Standings.{program_plan, put_by}
 use Rattle.run_session.specs.inside.Tallies.{PutsSoMany, files_put}
 use Rattle.run_session.proofs.StepReports.{EachIs, filter_forms}
 use Rattle.run_session.proofs.Tallies.{Puts, puts_afterwards, puts_as, puts_each, puts_on, puts_putting, puts_reading, puts_settled}
@@ -173,10 +173,10 @@ module _ (program : Program) (inputs : Inputs) where
   start_count : ReportsSo the_plan 0 (length (filter (λ (o : OutputUse). is_initial_grid o.kind) program.outputs))
   start_count grids reports is = by (done_steps program (scenes_over program.inputs inputs grids) 0) is
     where
-      by : (r : Result Done OverAt) → (r >>> λ done. Ok (map (written (scenes_over program.inputs inputs grids 0) done) (filter (is_output_of (section_at 0)) program.outputs))) ≡ Ok reports →
+      by : (r : Result Done OverAt) → (r >>> λ done. Ok (map (put_by (input_maps program.inputs inputs) (scenes_over program.inputs inputs grids 0) done) (filter (is_output_of (section_at 0)) program.outputs))) ≡ Ok reports →
           length (grids_among reports) ≡ length (filter (λ (o : OutputUse). is_initial_grid o.kind) program.outputs)
       by (Ok done) is =
-          let w = written (scenes_over program.inputs inputs grids 0) done in
+          let w = put_by (input_maps program.inputs inputs) (scenes_over program.inputs inputs grids 0) done in
           let same : map w (filter (λ (o : OutputUse). is_initial_grid o.kind) program.outputs) ≡ reports = cc in
           ap (λ rs. length (grids_among rs)) (sym same) ∙
           (ap length (filter_forms is_initial_grid (λ k. not (is_sample_form k)) is_initial_grid first_forms w (λ o. refl) program.outputs) ∙
@@ -186,10 +186,10 @@ module _ (program : Program) (inputs : Inputs) where
   step_count : (step : ℕ) → ReportsSo the_plan (suc step) (length (filter (λ (o : OutputUse). is_stack_grid o.kind) program.outputs))
   step_count step grids reports is = by (done_steps program (scenes_over program.inputs inputs grids) (suc step)) is
     where
-      by : (r : Result Done OverAt) → (r >>> λ done. Ok (map (written (scenes_over program.inputs inputs grids (suc step)) done) (filter (is_output_of (section_at (suc step))) program.outputs))) ≡ Ok reports →
+      by : (r : Result Done OverAt) → (r >>> λ done. Ok (map (put_by (input_maps program.inputs inputs) (scenes_over program.inputs inputs grids (suc step)) done) (filter (is_output_of (section_at (suc step))) program.outputs))) ≡ Ok reports →
           length (grids_among reports) ≡ length (filter (λ (o : OutputUse). is_stack_grid o.kind) program.outputs)
       by (Ok done) is =
-          let w = written (scenes_over program.inputs inputs grids (suc step)) done in
+          let w = put_by (input_maps program.inputs inputs) (scenes_over program.inputs inputs grids (suc step)) done in
           let same : map w (filter (λ (o : OutputUse). not (is_initial_grid o.kind)) program.outputs) ≡ reports = cc in
           ap (λ rs. length (grids_among rs)) (sym same) ∙
           (ap length (filter_forms (λ k. not (is_initial_grid k)) (λ k. not (is_sample_form k)) is_stack_grid stack_forms w (λ o. refl) program.outputs) ∙

@@ -1,6 +1,8 @@
 -- What is left of a run after each of its parts.
-use Rattle.std.proofs.Common.{◌≡◌, map, refl, sym, ap, subst, ◌∙◌}
+use Rattle.std.proofs.Common.{◌≡◌, ◌*◌, false, true, length, map, refl, sym, ap, subst, ◌∙◌}
 use Rattle.std.specs.Prelude.{List, ℕ, [], Ok, Err, Result, IfOk, IfErr, IsErrAnd}
+use Rattle.std.specs.List.{filter}
+use Rattle.text_base.specs.Results.{◌>>=◌ as ◌>>>◌}
 use Rattle.std.specs.declared.option.Option.{Option}
 use Rattle.outside_io.specs.State.{FolderState}
 use Rattle.outside_io.specs.Events.{Run}
@@ -14,15 +16,18 @@ use Rattle.map_meaning.specs.declared.known.OverAt.{OverAt}
 use Rattle.map_meaning.specs.declared.known.StepMap.{StepMap}
 use Rattle.map_meaning.specs.declared.program.InputUse.{InputUse}
 use Rattle.map_meaning.specs.declared.program.Program.{Program}
-use Rattle.map_meaning.specs.Programs.{is_grid_role}
-use Rattle.map_meaning.specs.Spans.{RunOf, at_inputs}
+use Rattle.map_meaning.specs.Maps.{nth}
+use Rattle.map_meaning.specs.Spans.{AreInputMaps, RunOf}
 use Rattle.grid_text.specs.declared.grid.Grid.{Grid}
 use Rattle.script_types.specs.Answers.{IsLowered}
 use Rattle.script_types.specs.Lowered.{Shown, as_shown, inputs_of, outputs_from}
 use Rattle.script_types.specs.Meaning.{meaning}
 use Rattle.script_types.specs.Names.{binding_of}
 use Rattle.script_types.specs.declared.typed.Line.{Line}
-use Rattle.script_types.specs.Values.{Written, script_reports}
+use Rattle.script_types.specs.Values.{Written, done_steps, is_output_of, script_reports, section_at, written}
+use Rattle.script_types.specs.inside.FitLines.{script_frame}
+use Rattle.script_types.specs.inside.Fits.{is_ids}
+use Rattle.script_types.proofs.Callers.{lines-fit}
 use Rattle.run_session.specs.declared.ends.SessionEnd.{SessionEnd}
 use Rattle.run_session.specs.declared.ends.SessionEnd.TheVariants as session
 use Rattle.run_session.specs.declared.ends.Stop.{Stop}
@@ -32,11 +37,12 @@ use Rattle.run_session.specs.Asked.{AreRunsOf, CountsTasks, IfDone, WasAsked, al
 use Rattle.run_session.specs.inside.Tallies.{HasRun}
 use Rattle.run_session.specs.Course.{CheckedScript, Given, Loaded, Many, checked_run, checked_script, inputs_given, load_run, loaded_run, nothing_given, one_more_input, or_meaning, plan_of, start_run, text_run}
 use Rattle.run_session.specs.Ends.{ScriptEnd, script_end, why}
-use Rattle.run_session.specs.Evaluation.{reports_of, scenes_over}
-use Rattle.run_session.specs.Samples.{all_begun}
+use Rattle.run_session.specs.Evaluation.{input_maps, reports_of, scenes_over}
+use Rattle.run_session.specs.Samples.{all_begun, as_put}
 use Rattle.run_session.specs.Steps.{Plan, plan_run, stacks_among, tallied}
-use Rattle.run_session.specs.inside.Parts.{IsProgramFor, MakesFor, StopsAt, stop_outcome}
+use Rattle.run_session.specs.inside.Parts.{AreInputsOf, IsProgramFor, MakesFor, StopsAt, stop_outcome}
 use Rattle.run_session.specs.inside.Standings.{outputs_over, program_plan}
+use Rattle.run_session.proofs.MeanReports.{put_fused, sampled_lines, step_same, whole_ids}
 
 -- ---- what is left
 
@@ -102,12 +108,24 @@ after_count plan few = tallied plan.steps (plan_run plan)
 
 -- ---- what was read is run
 
-module _ (l : Loaded) (program : Program) (for : IsProgramFor (record { script = l.script; lines = l.lines }) program) (inputs : Inputs) (same : inputs ≡ l.inputs) where
+module _ (l : Loaded) (program : Program) (for : IsProgramFor (record { script = l.script; lines = l.lines }) program) (inputs : Inputs) (are : AreInputsOf program.inputs inputs) (same : inputs ≡ l.inputs) where
   -- its program reports what its statements do
   reports_same : (grids : List (List StepMap)) (n : ℕ) → outputs_over program inputs grids n ≡ reports_of l.script l.lines l.inputs grids n
   reports_same grids n =
-      for.lowered.values.same (scenes_over program.inputs inputs grids) (λ k. refl) (λ m k input at drain. refl) n ∙ (ap (λ list. script_reports l.script for.lowered.lines (scenes_over list inputs grids) n) for.lowered.program_of.inputs ∙
-      (ap (λ lines. reports_of l.script lines inputs grids n) for.lines ∙ ap (λ i. reports_of l.script l.lines i grids n) same))
+      let put = λ (list : List InputUse). as_put false (input_maps list inputs) in
+      let list = inputs_of l.script in
+      let scenes = scenes_over program.inputs inputs grids in
+      put_fused (put program.inputs) (written (scenes n)) (filter (is_output_of (section_at n)) program.outputs) (done_steps program scenes n)
+      ∙ ap (λ r. r >>> λ rs. Ok (map (put program.inputs) rs)) (for.lowered.values.same scenes (λ k. refl) (λ m k input at drain. refl) n)
+      ∙ ap (λ uses. script_reports l.script for.lowered.lines (scenes_over uses inputs grids) n >>> λ rs. Ok (map (put uses) rs)) for.lowered.program_of.inputs
+      ∙ ap (λ lines. script_reports l.script lines (scenes_over list inputs grids) n >>> λ rs. Ok (map (put list) rs)) for.lines
+      ∙ step_same l.script.mean l.script l.lines (scenes_over list inputs grids) (input_maps list inputs) n refl
+      (sampled_lines (script_frame l.script) (scenes_over list inputs grids n) [] l.lines ids_whole (lines-fit l.script l.lines (for.lowered.meant ∙ ap Ok for.lines)))
+      ∙ ap (λ i. reports_of l.script l.lines i grids n) same
+    where
+      -- a map of ids is whole
+      ids_whole : (ids : ℕ) → is_ids (inputs_of l.script) ids ≡ true → length (nth (input_maps (inputs_of l.script) inputs) ids) ≡ inputs.frame.rows * inputs.frame.cols
+      ids_whole ids h = whole_ids (inputs.frame.rows * inputs.frame.cols) (inputs_of l.script) inputs.maps ids (subst (λ uses. AreInputMaps (inputs.frame.rows * inputs.frame.cols) uses inputs.maps) for.lowered.program_of.inputs are.maps) h
 
   -- its plan is that of its statements
   pub plan_same : program_plan program inputs ≡ plan_of l
@@ -116,7 +134,7 @@ module _ (l : Loaded) (program : Program) (for : IsProgramFor (record { script =
         frame = inputs.frame;
         steps = steps;
         stacks = stacks_among 0 uses;
-        samples = all_begun (at_inputs is_grid_role [] uses inputs.maps) shown;
+        samples = all_begun (input_maps uses inputs) shown;
         reports = reports;
       } in
       let bound = binding_of l.script in

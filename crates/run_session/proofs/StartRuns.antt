@@ -1,5 +1,5 @@
 -- Step 0 of a run, over what the session holds.
-use Rattle.std.proofs.Common.{◌≡◌, ℕ, ◌*◌, ◌<◌, true, not, List, [], length, map, refl, sym, ap, subst, ◌∙◌, Ok, Err, Result, arith}
+use Rattle.std.proofs.Common.{◌≡◌, ℕ, ◌*◌, ◌<◌, false, true, not, List, [], length, map, refl, sym, ap, subst, ◌∙◌, Ok, Err, Result, arith}
 use Rattle.std.specs.Prelude.{◌&&◌, All, Some, slice_get, slice_index_or}
 use Rattle.std.specs.List.{filter}
 use Rattle.std.proofs.lemmas.Bool.{eq-eqb}
@@ -23,19 +23,19 @@ use Rattle.map_meaning.specs.Maps.{WholeMap, nth}
 use Rattle.map_meaning.specs.Programs.{IsOperation, IsInitialValue, IsOutput, IsOutputValue, IsWellFormed, is_initial, is_initial_grid, is_written}
 use Rattle.map_meaning.specs.Spans.{kept_map}
 use Rattle.map_meaning.proofs.WholeMaps.{there}
-use Rattle.script_types.specs.Values.{Scenes, Written, is_output_of, section_at, written}
+use Rattle.script_types.specs.Values.{Scenes, Written, is_output_of, section_at}
 use Rattle.run_session.specs.declared.inputs.Inputs.{Inputs}
 use Rattle.run_session.specs.declared.samples.Sample.{Sample}
 use Rattle.run_session.specs.declared.stages.StageMaps.{StageMaps}
 use Rattle.run_session.specs.Asked.{HasDone}
 use Rattle.run_session.specs.Ends.{ScriptEnd, Overflow, why}
-use Rattle.run_session.specs.Evaluation.{scenes_over}
-use Rattle.run_session.specs.Samples.{is_sample_form}
+use Rattle.run_session.specs.Evaluation.{input_maps, scenes_over}
+use Rattle.run_session.specs.Samples.{cells_put, is_sample_form}
 use Rattle.run_session.specs.Steps.{Plan, evaluated_run, grids_among, or_overflow, report_run, standing_at_start}
 use Rattle.run_session.specs.inside.Outputs.{AreBegun}
 use Rattle.run_session.specs.inside.Running.{IsAllLeft, IsDrainOver, IsStanding}
 use Rattle.run_session.specs.inside.Stages.{initial_or_end, initial_values, no_drain}
-use Rattle.run_session.specs.inside.Standings.{AscendFrom, kept_of, kept_report, program_plan}
+use Rattle.run_session.specs.inside.Standings.{AscendFrom, kept_of, kept_report, program_plan, put_by}
 use Rattle.run_session.proofs.HeldDrains.{codes_at}
 use Rattle.run_session.proofs.Search.{kept_ascend}
 use Rattle.run_session.proofs.StageValues.{first_operation_of}
@@ -52,6 +52,12 @@ start_stops r f (CutOff (ReadFault name)) settles = absurd settles
 start_stops r f (CutOff (WriteFault name)) settles = absurd settles
 start_stops r f (CutOff NoMemory) settles = tt
 
+-- a grid is written as it is
+first_plain : (maps : List WholeMap) (k : OutputKind) (cells : WholeMap) → is_initial_grid k ≡ true → cells_put false maps k cells ≡ cells
+first_plain maps InitialGrid cells h = refl
+first_plain maps StackGrid cells h = absurd (cc)
+first_plain maps (IsSampleKind ids) cells h = absurd (cc)
+
 module _ (program : Program) (formed : IsWellFormed program) (inputs : Inputs) where
   abbrev places : ℕ
   places = inputs.frame.rows * inputs.frame.cols
@@ -62,10 +68,13 @@ module _ (program : Program) (formed : IsWellFormed program) (inputs : Inputs) w
   abbrev scenes : Scenes
   scenes = scenes_over program.inputs inputs []
 
+  abbrev inputs_here : List WholeMap
+  inputs_here = input_maps program.inputs inputs
+
   -- the evaluation stops the run
   pub start_no_maps : (mid : FolderState) (o : RunOutcome ScriptEnd) → Settles (why_by why) (initial_or_end program inputs) (stopped_by o) → Meets (why_by why) (evaluated_run plan [] 0) mid mid (stopped_by o)
   start_no_maps mid o settles =
-      no_values plan [] 0 mid o (start_stops (initial_values program inputs) (λ done. map (written (scenes 0) done) (filter (is_output_of (section_at 0)) program.outputs)) o settles)
+      no_values plan [] 0 mid o (start_stops (initial_values program inputs) (λ done. map (put_by inputs_here (scenes 0) done) (filter (is_output_of (section_at 0)) program.outputs)) o settles)
 
   module _ (y : Done) (is : HasDone program inputs [] 0 y) (left : StageMaps) (all : IsAllLeft program inputs y left) where
     abbrev maps : List StepMap
@@ -76,7 +85,7 @@ module _ (program : Program) (formed : IsWellFormed program) (inputs : Inputs) w
     start_ascends = subst (AscendFrom 0) (sym all.kept) (kept_ascend 0 y.initial 0 program.initial)
 
     abbrev writes : OutputUse → Written
-    writes = written (scenes 0) y
+    writes = put_by inputs_here (scenes 0) y
 
     abbrev firsts : List OutputUse
     firsts = filter (λ (o : OutputUse). is_initial_grid o.kind) program.outputs
@@ -130,7 +139,7 @@ module _ (program : Program) (formed : IsWellFormed program) (inputs : Inputs) w
       first_written : writes o ≡ kept_report maps left.drains o
       first_written =
           let P : WholeMap → Written = λ cells. record { file = o.file; form = o.kind; kind = o.cell_kind; cells = cells } in
-          ap P value_written.0
+          ap P (first_plain inputs_here o.kind (operand_map (scenes 0) y o.value) first ∙ value_written.0)
 
       first_count : length (kept_of maps left.drains o.value) ≡ places
       first_count = value_written.1
@@ -153,7 +162,7 @@ module _ (program : Program) (formed : IsWellFormed program) (inputs : Inputs) w
     start_counts = each_all (λ (o : OutputUse). length (kept_of maps left.drains o.value) ≡ places) firsts (each_passed (λ (o : OutputUse). length (kept_of maps left.drains o.value) ≡ places) (λ (o : OutputUse). is_initial_grid o.kind) program.outputs first_count)
 
     reported : plan.reports [] 0 ≡ Ok reports
-    reported = ap (λ r. r >>= λ done. Ok (map (written (scenes 0) done) (filter (is_output_of (section_at 0)) program.outputs))) is
+    reported = ap (λ r. r >>= λ done. Ok (map (put_by inputs_here (scenes 0) done) (filter (is_output_of (section_at 0)) program.outputs))) is
 
     -- a put stops the run
     pub start_put_stops : (mid new : FolderState) (o : RunOutcome ScriptEnd) → Meets (why_by why) (in_turn (report_run inputs.frame 0) tt (map (kept_report maps left.drains) firsts)) mid new (stopped_by o) → Meets (why_by why) (evaluated_run plan [] 0) mid new (stopped_by o)
@@ -181,4 +190,5 @@ stands_at_start program inputs start left samples is all begun = record {
   samples_are = sym begun.seen;
   each = begun.each;
   kept_for = begun.kept;
+  ids_are = begun.ids_are;
 }

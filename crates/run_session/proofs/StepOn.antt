@@ -14,16 +14,16 @@ use Rattle.map_meaning.specs.declared.program.Program.{Program}
 use Rattle.map_meaning.specs.Evaluation.{Done}
 use Rattle.map_meaning.specs.Programs.{IsWellFormed, is_stack_grid}
 use Rattle.map_meaning.specs.Spans.{kept_maps, stage_of, step_span}
-use Rattle.script_types.specs.Values.{Scenes, Written, done_steps, is_output_of, section_at, written}
+use Rattle.script_types.specs.Values.{Scenes, Written, done_steps, is_output_of, section_at}
 use Rattle.run_session.specs.declared.inputs.Inputs.{Inputs}
 use Rattle.run_session.specs.declared.samples.Sample.{Sample}
 use Rattle.run_session.specs.Ends.{ScriptEnd, why}
 use Rattle.run_session.specs.declared.stages.StageMaps.{StageMaps}
-use Rattle.run_session.specs.Evaluation.{scenes_over}
+use Rattle.run_session.specs.Evaluation.{input_maps, scenes_over}
 use Rattle.run_session.specs.Steps.{Plan, Standing, grids_among, one_more_grid, report_run, stacks_among, step_run}
 use Rattle.run_session.specs.inside.Parts.{AreInputsOf}
 use Rattle.run_session.specs.inside.Running.{IsStanding}
-use Rattle.run_session.specs.inside.Standings.{AreGridsOf, AscendFrom, kept_of, kept_report, known_at, program_plan, stage_result, with_held_row}
+use Rattle.run_session.specs.inside.Standings.{AreGridsOf, AscendFrom, kept_of, kept_report, known_at, program_plan, put_by, stage_result, with_held_row}
 use Rattle.run_session.proofs.Search.{kept_ascend}
 use Rattle.run_session.proofs.StepOutputs.{step_counts, step_grids, step_reports}
 use Rattle.run_session.proofs.StepRuns.{all_put, kept_done, kept_stops, no_puts, no_values, standing_after, step_settles, step_stops}
@@ -54,7 +54,7 @@ module _ (program : Program) (formed : IsWellFormed program) (inputs : Inputs) (
   no_maps o settles =
       step_stops plan s step old mid g read mid o
       (no_values plan all_grids step mid o
-      (kept_stops program step (done_steps program scenes step) (λ done. map (written (scenes step) done) (filter (is_output_of (section_at step)) program.outputs)) o
+      (kept_stops program step (done_steps program scenes step) (λ done. map (put_by (input_maps program.inputs inputs) (scenes step) done) (filter (is_output_of (section_at step)) program.outputs)) o
       (subst (λ x. Settles (why_by why) x (stopped_by o)) gives settles)))
 
   module _ (maps : List StepMap) (value : stage_result (stage_of program (step_span step) known) ≡ Ok maps) where

@@ -24,17 +24,17 @@ use Rattle.map_meaning.specs.Programs.{IsBelowNow, IsOperation, IsOutput, IsOutp
 use Rattle.map_meaning.specs.Scenes.{map_at_step, place_count}
 use Rattle.map_meaning.specs.Spans.{kept_map, kept_maps}
 use Rattle.map_meaning.proofs.WholeMaps.{input_there, operation_of, step_operation_of, there}
-use Rattle.script_types.specs.Values.{Scenes, Written, done_steps, written}
+use Rattle.script_types.specs.Values.{Scenes, Written, done_steps}
 use Rattle.run_session.specs.declared.inputs.Inputs.{Inputs}
 use Rattle.run_session.specs.declared.samples.Sample.{Sample}
 use Rattle.run_session.specs.declared.stages.StageMaps.{StageMaps}
-use Rattle.run_session.specs.Evaluation.{scenes_over}
-use Rattle.run_session.specs.Samples.{id_columns, is_sample_form, place_of_id, sample_row, with_rows}
+use Rattle.run_session.specs.Evaluation.{input_maps, scenes_over}
+use Rattle.run_session.specs.Samples.{cells_put, id_columns, is_sample_form, place_of_id, row_cells, with_rows}
 use Rattle.run_session.specs.Steps.{Standing, grids_among, rows_among, stacks_among}
-use Rattle.run_session.specs.inside.Outputs.{IsKeptFor, grids_before, operand_input}
+use Rattle.run_session.specs.inside.Outputs.{IsKeptFor, grids_before, ids_of, operand_input}
 use Rattle.run_session.specs.inside.Parts.{AreInputsOf}
 use Rattle.run_session.specs.inside.Running.{IsStanding}
-use Rattle.run_session.specs.inside.Standings.{AreGridsOf, IsSample, held_cell, held_row, kept_of, kept_report, known_at, sampled_of, with_held_row}
+use Rattle.run_session.specs.inside.Standings.{AreGridsOf, IsSample, held_cell, held_row, kept_of, kept_report, known_at, put_by, sampled_of, with_held_row}
 use Rattle.run_session.proofs.InputPlaces.{grid_at}
 use Rattle.run_session.proofs.KeptMaps.{kept_written}
 use Rattle.run_session.proofs.StepReports.{EachIs, any_at, each_all, each_passed, filter_forms, map_each, output_at}
@@ -48,15 +48,19 @@ use Rattle.map_meaning.specs.declared.program.Role.TheVariants.{Grid}
 -- ---- the cells of a row
 
 -- two lists of cells at the places of some columns
-row_cells : (places : ℕ) (f h : ℕ → Cell) (place : ℕ → ℕ) (columns : List ℕ) → All (λ p. p < places) (map place columns) → ((p : ℕ) → p < places → f p ≡ h p) → map (λ n. f (place n)) columns ≡ map h (map place columns)
-row_cells places f h place [] within same = refl
-row_cells places f h place (n ∷ columns) within same =
+cells_same : (places : ℕ) (f h : ℕ → Cell) (place : ℕ → ℕ) (columns : List ℕ) → All (λ p. p < places) (map place columns) → ((p : ℕ) → p < places → f p ≡ h p) → map (λ n. f (place n)) columns ≡ map h (map place columns)
+cells_same places f h place [] within same = refl
+cells_same places f h place (n ∷ columns) within same =
     ap (λ c. c ∷ map (λ n. f (place n)) columns) (same (place n) (within 0 0 (omega arith))) ∙
-    ap (λ cs. h (place n) ∷ cs) (row_cells places f h place columns (λ k d below. within (suc k) d (omega (arith, below))) same)
+    ap (λ cs. h (place n) ∷ cs) (cells_same places f h place columns (λ k d below. within (suc k) d (omega (arith, below))) same)
+
+-- the row of a step
+abbrev row_at : ℕ → List Cell → SeriesRow
+row_at step cells = record { step = step; cells = cells }
 
 -- the row of a time series, by what is held
 sample_cells : (places : ℕ) (known : Known) (now : List StepMap) (step : ℕ) (uses : List InputUse) (o : OutputUse) (s : Sample) (cells : WholeMap) → IsSample places s → IsKeptFor uses o s →
-    ((p : ℕ) → p < places → cell_at cells p ≡ held_cell known now step (grids_before uses (operand_input o.value)) o.value p) → sample_row step s.ids cells ≡ held_row known now step s
+    ((p : ℕ) → p < places → cell_at cells p ≡ held_cell known now step (grids_before uses (operand_input o.value)) o.value p) → row_at step (row_cells false s.ids cells) ≡ held_row known now step s
 sample_cells places known now step uses o s cells is kept same =
     let place = place_of_id s.ids in
     let columns = id_columns s.ids in
@@ -64,21 +68,27 @@ sample_cells places known now step uses o s cells is kept same =
     let h = held_cell known now step s.input s.value in
     let held : (p : ℕ) → p < places → cell_at cells p ≡ h p = λ p below.
     same p below ∙ (ap (λ i. held_cell known now step i o.value p) (sym kept.input) ∙ ap (λ v. held_cell known now step s.input v p) (sym kept.value)) in
-    let P : List Cell → SeriesRow = λ cells. record { step = step; cells = cells } in
-    ap P (row_cells places (cell_at cells) h place columns within held ∙ ap (map h) (sym is.places_are))
+    ap (row_at step) (cells_same places (cell_at cells) h place columns within held ∙ ap (map h) (sym is.places_are))
+
+-- an output that is a time series writes the row of a map of which the session holds the cells
+record IsHeldRow (places : ℕ) (known : Known) (now : List StepMap) (step : ℕ) (uses : List InputUse) (ids : OutputUse → WholeMap) (cells : OutputUse → WholeMap) (w : OutputUse → Written) (o : OutputUse) : Type 0 where
+  row : (w o).cells ≡ row_cells false (ids o) (cells o)
+  held : (p : ℕ) → p < places → cell_at (cells o) p ≡ held_cell known now step (grids_before uses (operand_input o.value)) o.value p
 
 -- the time series with one more row are those that are held with it
-held_rows : (places : ℕ) (known : Known) (now : List StepMap) (step : ℕ) (uses : List InputUse) (w : OutputUse → Written) (outputs : List OutputUse) (samples : List Sample) → AllZip (IsKeptFor uses) outputs samples →
-    All (IsSample places) samples → EachIs (λ (o : OutputUse). (p : ℕ) → p < places → cell_at (w o).cells p ≡ held_cell known now step (grids_before uses (operand_input o.value)) o.value p) outputs →
+held_rows : (places : ℕ) (known : Known) (now : List StepMap) (step : ℕ) (uses : List InputUse) (ids : OutputUse → WholeMap) (cells : OutputUse → WholeMap) (w : OutputUse → Written) (outputs : List OutputUse) (samples : List Sample) → AllZip (IsKeptFor uses) outputs samples →
+    map (λ (s : Sample). s.ids) samples ≡ map ids outputs → All (IsSample places) samples → EachIs (IsHeldRow places known now step uses ids cells w) outputs →
     with_rows step (map sampled_of samples) (map w outputs) ≡ map sampled_of (map (with_held_row known now step) samples)
-held_rows places known now step uses w [] [] kept are same = refl
-held_rows places known now step uses w [] (s ∷ samples) kept are same = absurd kept
-held_rows places known now step uses w (o ∷ outputs) [] kept are same = absurd kept
-held_rows places known now step uses w (o ∷ outputs) (s ∷ samples) kept are same =
+held_rows places known now step uses ids cells w [] [] kept of are same = refl
+held_rows places known now step uses ids cells w [] (s ∷ samples) kept of are same = absurd kept
+held_rows places known now step uses ids cells w (o ∷ outputs) [] kept of are same = absurd kept
+held_rows places known now step uses ids cells w (o ∷ outputs) (s ∷ samples) kept of are same =
     let rest = with_rows step (map sampled_of samples) (map w outputs) in
+    let first : s.ids ≡ ids o = cc in
+    let later : map (λ (s : Sample). s.ids) samples ≡ map ids outputs = cc in
     ap (λ (row : SeriesRow). record { file = s.file; kind = s.kind; ids = s.ids; rows = s.rows ++ row ∷ [] } ∷ rest)
-    (sample_cells places known now step uses o s (w o).cells (are 0 s (omega arith)) kept.0 same.0) ∙
-    ap (λ more. sampled_of (with_held_row known now step s) ∷ more) (held_rows places known now step uses w outputs samples kept.1 (λ k d below. are (suc k) d (omega (arith, below))) same.1)
+    (ap (row_at step) (same.0.row ∙ ap (λ m. row_cells false m (cells o)) (sym first)) ∙ sample_cells places known now step uses o s (cells o) (are 0 s (omega arith)) kept.0 same.0.held) ∙
+    ap (λ more. sampled_of (with_held_row known now step s) ∷ more) (held_rows places known now step uses ids cells w outputs samples kept.1 later (λ k d below. are (suc k) d (omega (arith, below))) same.1)
 
 -- a time series with one more row is one
 row_sample : (places : ℕ) (known : Known) (now : List StepMap) (step : ℕ) (s : Sample) → IsSample places s → IsSample places (with_held_row known now step s)
@@ -107,6 +117,23 @@ row_kept uses known now step [] (s ∷ samples) kept = absurd kept
 row_kept uses known now step (o ∷ outputs) [] kept = absurd kept
 row_kept uses known now step (o ∷ outputs) (s ∷ samples) kept = (record { value = kept.0.value; input = kept.0.input }, row_kept uses known now step outputs samples kept.1)
 
+-- and have the same ids
+pub row_ids : (known : Known) (now : List StepMap) (step : ℕ) (samples : List Sample) → map (λ (s : Sample). s.ids) (map (with_held_row known now step) samples) ≡ map (λ (s : Sample). s.ids) samples
+row_ids known now step [] = refl
+row_ids known now step (s ∷ samples) = ap (λ ids. s.ids ∷ ids) (row_ids known now step samples)
+
+-- a stack is written as it is
+stack_plain : (maps : List WholeMap) (k : OutputKind) (cells : WholeMap) → is_stack_grid k ≡ true → cells_put false maps k cells ≡ cells
+stack_plain maps InitialGrid cells h = absurd (cc)
+stack_plain maps StackGrid cells h = refl
+stack_plain maps (IsSampleKind ids) cells h = absurd (cc)
+
+-- a time series is written by rows
+sample_row : (maps : List WholeMap) (k : OutputKind) (cells : WholeMap) → is_sample_form k ≡ true → cells_put false maps k cells ≡ row_cells false (ids_of maps k) cells
+sample_row maps InitialGrid cells h = absurd (cc)
+sample_row maps StackGrid cells h = absurd (cc)
+sample_row maps (IsSampleKind ids) cells h = refl
+
 -- ---- a step
 
 module _ (program : Program) (formed : IsWellFormed program) (inputs : Inputs) (are : AreInputsOf program.inputs inputs)
@@ -125,9 +152,16 @@ module _ (program : Program) (formed : IsWellFormed program) (inputs : Inputs) (
   abbrev maps : List StepMap
   maps = kept_maps step y.dynamic 0 program.dynamic
 
+  abbrev inputs_here : List WholeMap
+  inputs_here = input_maps program.inputs inputs
+
+  -- the map of an output
+  abbrev cells : OutputUse → WholeMap
+  cells o = operand_map (scenes step) y o.value
+
   -- what an output writes
   abbrev writes : OutputUse → Written
-  writes = written (scenes step) y
+  writes = put_by inputs_here (scenes step) y
 
   module _ (i : ℕ) (o : OutputUse) (at : slice_get program.outputs i ≡ Some o) where
     -- an operation of `initial` that the output names is kept
@@ -189,18 +223,22 @@ module _ (program : Program) (formed : IsWellFormed program) (inputs : Inputs) (
             ap (λ b. cell_at (cond b (kept_map left.kept j) (kept_map last d)) p) (sym h))
 
     -- what a time series samples is held
-    sample_held : is_sample_form o.kind ≡ true → (p : ℕ) → p < places → cell_at (writes o).cells p ≡ held_cell known maps step (grids_before program.inputs (operand_input o.value)) o.value p
+    sample_held : is_sample_form o.kind ≡ true → (p : ℕ) → p < places → cell_at (cells o) p ≡ held_cell known maps step (grids_before program.inputs (operand_input o.value)) o.value p
     sample_held sample p below = by o.kind refl sample
       where
         output : IsOutput program o
         output = output_at program formed i o at
 
-        by : (k : OutputKind) → o.kind ≡ k → is_sample_form k ≡ true → cell_at (writes o).cells p ≡ held_cell known maps step (grids_before program.inputs (operand_input o.value)) o.value p
+        by : (k : OutputKind) → o.kind ≡ k → is_sample_form k ≡ true → cell_at (cells o) p ≡ held_cell known maps step (grids_before program.inputs (operand_input o.value)) o.value p
         by InitialGrid is_k h = absurd (cc)
         by StackGrid is_k h = absurd (cc)
         by (IsSampleKind ids) is_k h =
             let value : IsOutputValue program (IsSampleKind ids) o.value = subst (λ k. IsOutputValue program k o.value) is_k output.value in
             held p below o.value refl value.1
+
+    -- and it is written by rows
+    row_held : is_sample_form o.kind ≡ true → IsHeldRow places known maps step program.inputs (λ (o : OutputUse). ids_of inputs_here o.kind) cells writes o
+    row_held sample = record { row = sample_row inputs_here o.kind (cells o) sample; held = sample_held sample }
 
     -- a stack is written from the kept maps, which are whole
     stack_value : is_stack_grid o.kind ≡ true → (k : ℕ) × (o.value ≡ Now k) × (k < length program.dynamic)
@@ -221,7 +259,7 @@ module _ (program : Program) (formed : IsWellFormed program) (inputs : Inputs) (
         let same : operand_map (scenes step) y o.value ≡ kept_of maps left.drains o.value =
         ap (operand_map (scenes step) y) value.1 ∙ (sym (now_kept k value.2 (ap (is_now k) value.1 ∙ eq-eqb k k refl)) ∙ ap (kept_of maps left.drains) (sym value.1)) in
         let P : WholeMap → Written = λ cells. record { file = o.file; form = o.kind; kind = o.cell_kind; cells = cells } in
-        ap P same
+        ap P (stack_plain inputs_here o.kind (cells o) stack ∙ same)
 
     stack_count : is_stack_grid o.kind ≡ true → length (kept_of maps left.drains o.value) ≡ places
     stack_count stack =
@@ -266,5 +304,5 @@ module _ (program : Program) (formed : IsWellFormed program) (inputs : Inputs) (
   step_rows =
       ap (λ all. with_rows step all (rows_among step_reports)) is.samples_are ∙
       (ap (with_rows step (map sampled_of samples)) (filter_forms (λ k. not (is_initial_grid k)) is_sample_form is_sample_form sample_forms writes (λ o. refl) program.outputs) ∙
-      held_rows places known maps step program.inputs writes sample_outputs samples is.kept_for is.each
-      (each_passed (λ (o : OutputUse). (p : ℕ) → p < places → cell_at (writes o).cells p ≡ held_cell known maps step (grids_before program.inputs (operand_input o.value)) o.value p) (λ (o : OutputUse). is_sample_form o.kind) program.outputs sample_held))
+      held_rows places known maps step program.inputs (λ (o : OutputUse). ids_of inputs_here o.kind) cells writes sample_outputs samples is.kept_for is.ids_are is.each
+      (each_passed (IsHeldRow places known maps step program.inputs (λ (o : OutputUse). ids_of inputs_here o.kind) cells writes) (λ (o : OutputUse). is_sample_form o.kind) program.outputs row_held))

@@ -10,17 +10,17 @@ use Rattle.map_meaning.specs.declared.program.Program.{Program}
 use Rattle.map_meaning.specs.Evaluation.{Done}
 use Rattle.map_meaning.specs.Programs.{IsWellFormed}
 use Rattle.map_meaning.specs.Spans.{kept_maps, step_span}
-use Rattle.script_types.specs.Values.{Scenes, Written, done_steps, is_output_of, section_at, written}
+use Rattle.script_types.specs.Values.{Scenes, Written, done_steps, is_output_of, section_at}
 use Rattle.run_session.specs.declared.inputs.Inputs.{Inputs}
 use Rattle.run_session.specs.declared.samples.Sample.{Sample}
 use Rattle.run_session.specs.declared.stages.StageMaps.{StageMaps}
 use Rattle.run_session.specs.Asked.{HasDone, IsRunOf}
-use Rattle.run_session.specs.Evaluation.{scenes_over}
+use Rattle.run_session.specs.Evaluation.{input_maps, scenes_over}
 use Rattle.run_session.specs.Steps.{Standing, stacks_among}
 use Rattle.run_session.specs.inside.Parts.{AreInputsOf}
 use Rattle.run_session.specs.inside.Running.{IsStanding}
-use Rattle.run_session.specs.inside.Standings.{AreGridsOf, known_at, outputs_over, with_held_row}
-use Rattle.run_session.proofs.StepOutputs.{row_kept, row_samples, step_reports, step_rows}
+use Rattle.run_session.specs.inside.Standings.{AreGridsOf, known_at, outputs_over, put_by, with_held_row}
+use Rattle.run_session.proofs.StepOutputs.{row_ids, row_kept, row_samples, step_reports, step_rows}
 use Rattle.run_session.proofs.StepRuns.{standing_after}
 use Rattle.run_session.proofs.StepStages.{done_front, grids_last, step_drains, step_knows, step_start, step_whole}
 
@@ -53,8 +53,8 @@ module _ (program : Program) (formed : IsWellFormed program) (inputs : Inputs) (
     -- what the program reports at the step
     pub step_reported : outputs_over program inputs all_grids step ≡ Ok reports
     step_reported =
-        ap (λ r. r >>= λ done. Ok (map (written (scenes step) done) (filter (is_output_of (section_at step)) program.outputs))) done ∙
-        (let P : List Written → Result (List Written) OverAt = λ xs. Ok xs in ap (λ k. P (map (written (scenes step) y) (filter (is_output_of (section_at k)) program.outputs))) e)
+        ap (λ r. r >>= λ done. Ok (map (put_by (input_maps program.inputs inputs) (scenes step) done) (filter (is_output_of (section_at step)) program.outputs))) done ∙
+        (let P : List Written → Result (List Written) OverAt = λ xs. Ok xs in ap (λ k. P (map (put_by (input_maps program.inputs inputs) (scenes step) y) (filter (is_output_of (section_at k)) program.outputs))) e)
 
     -- what stands after the step
     pub stands_after : (maps : List StepMap) → maps ≡ kept_maps step y.dynamic 0 program.dynamic →
@@ -77,6 +77,7 @@ module _ (program : Program) (formed : IsWellFormed program) (inputs : Inputs) (
           samples_are = step_rows program formed inputs are step n e some there_is s left last samples is g grids y done;
           each = row_samples places known (kept_maps step y.dynamic 0 program.dynamic) step samples is.each;
           kept_for = row_kept program.inputs known (kept_maps step y.dynamic 0 program.dynamic) step _ samples is.kept_for;
+          ids_are = row_ids known (kept_maps step y.dynamic 0 program.dynamic) step samples ∙ is.ids_are;
         })
 
   -- the run that the runner was asked for

@@ -21,8 +21,6 @@ use Rattle.map_meaning.specs.declared.program.InputUse.{InputUse}
 use Rattle.map_meaning.specs.declared.program.Role.{Role}
 use Rattle.map_meaning.specs.declared.program.Role.TheVariants as role
 use Rattle.map_meaning.specs.Maps.{WholeMap}
-use Rattle.map_meaning.specs.Programs.{is_grid_role}
-use Rattle.map_meaning.specs.Spans.{at_inputs}
 use Rattle.script_types.specs.declared.fault.MeaningFault.{MeaningFault}
 use Rattle.script_types.specs.declared.typed.Line.{Line}
 use Rattle.script_types.specs.Lowered.{area_number, inputs_of, outputs_from}
@@ -34,7 +32,7 @@ use Rattle.run_session.specs.declared.ends.Tally.{Tally}
 use Rattle.run_session.specs.declared.frame.Frame.{Frame}
 use Rattle.run_session.specs.declared.inputs.Inputs.{Inputs}
 use Rattle.run_session.specs.Ends.{ScriptEnd, Missing, TooLong, Script as ScriptIs, Input, TooManyTasks, script_end}
-use Rattle.run_session.specs.Evaluation.{reports_of}
+use Rattle.run_session.specs.Evaluation.{input_maps, reports_of}
 use Rattle.run_session.specs.Samples.{all_begun}
 use Rattle.run_session.specs.Steps.{Plan, grid_run, map_run, plan_run, stacks_among, tallied}
 
@@ -227,7 +225,7 @@ plan_of l = record {
   frame = l.inputs.frame;
   steps = l.script.steps;
   stacks = stacks_among 0 (inputs_of l.script);
-  samples = all_begun (at_inputs is_grid_role [] (inputs_of l.script) l.inputs.maps) (outputs_from (binding_of l.script) 1 l.lines);
+  samples = all_begun (input_maps (inputs_of l.script) l.inputs) (outputs_from (binding_of l.script) 1 l.lines);
   reports = reports_of l.script l.lines l.inputs;
 }
 

@@ -1,5 +1,5 @@
 -- What the crates above cite: what the reader's answer says.
-use Rattle.std.proofs.Common.{ℕ, List, Result, Ok, Err, subst}
+use Rattle.std.proofs.Common.{ℕ, false, List, Result, Ok, Err, subst}
 use Rattle.std.specs.Prelude.{IfOk, IfErr}
 use Rattle.script_syntax.specs.declared.fault.ReadScript.{ReadScript}
 use Rattle.script_syntax.specs.declared.fault.ReadScript.TheVariants as errors
@@ -32,7 +32,18 @@ only_in text r h has e = subst (λ x. Reads r x) (exact_is text has e) h
 
 -- the tree of a script keeps the limits
 pub script_well_made : (text : List ℕ) (s : Script) → IsScript text s → IsWellMade s
-script_well_made text s h = derives-well_made (tokens_of h.scanned.tokens) s h.derives (tokens_spelled h.scanned.tokens h.scanned.ending Bindings first_place text h.tokens) h.clean
+script_well_made text s h =
+    let k = derives-well_made (tokens_of h.scanned.tokens) (record s { mean = false }) h.derives (tokens_spelled h.scanned.tokens h.scanned.ending Bindings first_place text h.tokens) h.clean in
+    record {
+      entries = k.entries;
+      statements = k.statements;
+      steps = k.steps;
+      still = k.still;
+      area = k.area;
+      bindings = k.bindings;
+      initial = k.initial;
+      dynamic = k.dynamic;
+    }
 
 -- so does the tree that is answered
 pub made_in : (text : List ℕ) (r : Result Script ReadScript) → Reads r (tree_of text) → IfOk r IsWellMade

@@ -12,6 +12,7 @@ use Rattle.script_syntax.specs.declared.place.Mode.TheVariants.{Bindings}
 use Rattle.script_syntax.specs.declared.place.Place.{Place}
 use Rattle.script_syntax.specs.declared.scanner.Placed.{Placed}
 use Rattle.script_syntax.specs.declared.reading.Reading.{Reading}
+use Rattle.script_syntax.specs.Editions.{asks_mean}
 use Rattle.script_syntax.specs.Grammar.{Derives}
 use Rattle.script_syntax.specs.Listed.{is_long, is_bad_timer, is_entry_too_many, is_statement_too_many, is_large, listed_by, listed, counts_behind, IsClean}
 use Rattle.script_syntax.specs.Places.{first_place}
@@ -21,7 +22,7 @@ use Rattle.script_syntax.specs.inside.Counting.{counts_after}
 use Rattle.script_syntax.specs.inside.Readings.{new_reading, reading_step, finish}
 use Rattle.script_syntax.specs.inside.Runs.{done, went_onward, go}
 use Rattle.script_syntax.specs.inside.Scanning.{scan}
-use Rattle.script_syntax.specs.inside.Reading.{syntax_fault_at, tree_or_end, at_end, listed_or, step_at, and_then, read_from, read_scanned, tree_of}
+use Rattle.script_syntax.specs.inside.Reading.{syntax_fault_at, tree_or_end, at_end, listed_or, step_at, and_then, read_from, read_scanned, tree_by_tokens, in_edition, tree_of}
 use Rattle.script_syntax.proofs.CountLaws.{counts_of-more}
 use Rattle.script_syntax.proofs.ScanLaws.{tokens_one, tokens_are}
 use Rattle.script_syntax.proofs.Viable.{done_viable, done_derives, derives_done, go-append, stuck_dead, viable_done}
@@ -232,13 +233,17 @@ clean_none = λ front back t e. no_empty front back t e
     no_empty [] back t e = absurd cc
     no_empty (f ∷ front) back t e = absurd cc
 
-exact_by : (text : List ℕ) (s : Scanned) (o : Result Script SyntaxFault) → AreScriptTokens text s → IsGiven [] s.tokens s.ending o → IsExact text o
-exact_by text s (Ok tree) a g = record { scanned = s; tokens = a; whole = g.0; derives = g.1; clean = g.2 }
+-- tokens derive no other edition than the first
+first_edition : (ts : List Token) (tree : Script) → Derives ts tree → Derives ts (record tree { mean = false })
+first_edition ts tree d = record { form = d.form; tokens_of = d.tokens_of; tree_of = ap (λ (t : Script). record t { mean = false }) d.tree_of }
+
+exact_by : (text : List ℕ) (s : Scanned) (o : Result Script SyntaxFault) → AreScriptTokens text s → IsGiven [] s.tokens s.ending o → IsExact text (in_edition (asks_mean text) o)
+exact_by text s (Ok tree) a g = record { scanned = s; tokens = a; whole = g.0; derives = first_edition (tokens_of s.tokens) tree g.1; mean = refl; clean = g.2 }
 exact_by text s (Err f) a g = record { scanned = s; tokens = a; first = record { front = g.front; back = g.back; parts = g.parts; before = g.before; clean = g.clean; here = g.here } }
 
 -- what a text gives is exact
 pub tree_of-exact : (text : List ℕ) → IsExact text (tree_of text)
-unfolding tree_of read_scanned
+unfolding tree_of tree_by_tokens read_scanned
 tree_of-exact text =
     let s = scan text 0 Bindings first_place in
     exact_by text s (read_from new_reading (counts_behind []) first_place s.tokens s.ending) (tokens_are text) (given s.tokens [] s.ending new_reading refl clean_none)
@@ -315,25 +320,26 @@ fault_here kinds.Number front back r ending place h e = listed_here kinds.Number
 
 -- what is exact is what the text gives
 pub exact_is : (text : List ℕ) (o : Result Script SyntaxFault) → IsExact text o → tree_of text ≡ o
-unfolding tree_of read_scanned
+unfolding tree_of tree_by_tokens read_scanned
 exact_is text (Ok tree) h =
     let s = h.scanned in
     let same = tokens_one text s h.tokens in
-    let d = derives_done (tokens_of s.tokens) tree h.derives in
-    ap (λ (c : Scanned). read_from new_reading (counts_behind []) first_place c.tokens c.ending) (sym same)
+    let d = derives_done (tokens_of s.tokens) (record tree { mean = false }) h.derives in
+    ap (in_edition (asks_mean text)) (ap (λ (c : Scanned). read_from new_reading (counts_behind []) first_place c.tokens c.ending) (sym same)
     ∙ (ap (λ (ts : List Placed). read_from new_reading (counts_behind []) first_place ts s.ending) (sym (append-nil s.tokens))
     ∙ (at_front s.tokens [] d.reading s.ending d.goes h.clean
     ∙ (ap (at_end d.reading (end_place s.tokens)) h.whole
-    ∙ ap (λ (x : Option Script). tree_or_end x (end_place s.tokens)) d.finishes)))
+    ∙ ap (λ (x : Option Script). tree_or_end x (end_place s.tokens)) d.finishes))))
+    ∙ ap (λ (mean : Bool). Ok (record tree { mean = mean })) (sym h.mean)
 exact_is text (Err f) h =
     let s = h.scanned in
     let first = h.first in
     let same = tokens_one text s h.tokens in
     let v = viable_done (tokens_of first.front) first.before in
-    ap (λ (c : Scanned). read_from new_reading (counts_behind []) first_place c.tokens c.ending) (sym same)
+    ap (in_edition (asks_mean text)) (ap (λ (c : Scanned). read_from new_reading (counts_behind []) first_place c.tokens c.ending) (sym same)
     ∙ (ap (λ (ts : List Placed). read_from new_reading (counts_behind []) first_place ts s.ending) first.parts
     ∙ (at_front first.front first.back v.reading s.ending v.goes first.clean
-    ∙ fault_here f.kind first.front first.back v.reading s.ending (fault_place f) first.here v.goes))
+    ∙ fault_here f.kind first.front first.back v.reading s.ending (fault_place f) first.here v.goes)))
 
 pub exact_one : (text : List ℕ) (a b : Result Script SyntaxFault) → IsExact text a → IsExact text b → a ≡ b
 exact_one text a b h k = sym (exact_is text a h) ∙ exact_is text b k

@@ -18,7 +18,7 @@ use Rattle.script_syntax.specs.Listed.{is_semicolon, is_section, is_timer, is_be
 use Rattle.script_syntax.specs.Places.{first_place}
 use Rattle.script_syntax.specs.Tokens.{Ending, Scanned}
 use Rattle.script_syntax.specs.inside.Counting.{IsCountBelow, AreBelow, one_more, timer_after, statements_after, counts_after}
-use Rattle.script_syntax.specs.inside.Reading.{at_end, step_at, and_then, read_from, read_scanned, tree_of}
+use Rattle.script_syntax.specs.inside.Reading.{at_end, step_at, and_then, read_from, read_scanned, tree_by_tokens}
 use Rattle.script_syntax.specs.inside.Readings.{new_reading}
 use Rattle.script_syntax.specs.inside.Scanner.{scan_of}
 use Rattle.script_syntax.specs.inside.Scanning.{scan, scanned, with_token}
@@ -94,9 +94,9 @@ below_after c t n m h l =
 
 -- ---- the whole text
 
-pub tree_of-is : (text : List ℕ) (s : Scanner) (r : Reading) → s.rest.now ≡ text → s.mode ≡ Bindings → s.place ≡ first_place → r ≡ new_reading → read_scanned r (counts_behind []) s.place (scan_of s) ≡ tree_of text
-unfolding tree_of scan_of
-tree_of-is text s r rest mode place new =
+pub tree_by_tokens-is : (text : List ℕ) (s : Scanner) (r : Reading) → s.rest.now ≡ text → s.mode ≡ Bindings → s.place ≡ first_place → r ≡ new_reading → read_scanned r (counts_behind []) s.place (scan_of s) ≡ tree_by_tokens text
+unfolding tree_by_tokens scan_of
+tree_by_tokens-is text s r rest mode place new =
     ap (λ (x : Reading). read_scanned x (counts_behind []) s.place (scan s.rest.now 0 s.mode s.place)) new
     ∙ (ap (λ (ys : List ℕ). read_scanned new_reading (counts_behind []) s.place (scan ys 0 s.mode s.place)) rest
     ∙ (ap (λ m. read_scanned new_reading (counts_behind []) s.place (scan text 0 m s.place)) mode

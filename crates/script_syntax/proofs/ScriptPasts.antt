@@ -49,7 +49,7 @@ front_on (in_initial h from to by ss) rest = head_on h (timer_on from to by (tok
 front_on (in_dynamic h from to by initial ss) rest = head_on h (timer_on from to by (initial_on initial (dynamic_on ss rest)))
 
 abbrev pub head_script : Head → ℕ → List Statement → List Statement → Script
-head_script h steps initial dynamic = record { bindings = unwrap_or h.bindings []; area = h.area; steps = steps; initial = initial; dynamic = dynamic }
+head_script h steps initial dynamic = record { bindings = unwrap_or h.bindings []; area = h.area; steps = steps; initial = initial; dynamic = dynamic; mean = false }
 
 abbrev pub front_script : Front → Script
 front_script (in_static h ss) = head_script h 0 (stats_trees ss) []
@@ -139,7 +139,7 @@ past_on (at_named f r w) rest = front_on f (report_on r (tokens.Name w ∷ rest)
 past_on (at_formula f r w x) rest = front_on f (report_on r (tokens.Name w ∷ tokens.Mark marks.Equal ∷ formula_on x rest))
 
 abbrev pub bound_script : List Binding → Script
-bound_script bs = record { bindings = bs; area = codes ""; steps = 0; initial = []; dynamic = [] }
+bound_script bs = record { bindings = bs; area = codes ""; steps = 0; initial = []; dynamic = []; mean = false }
 
 -- the reading that these tokens lead to
 abbrev pub reading_of : Past → Reading

@@ -396,7 +396,7 @@ take_stats [] s c rest = refl
 take_stats (x ∷ xs) s c rest = take_stat s c x (stats_on xs rest) ∙ take_stats xs (with_statement s c (stat_tree x)) c rest
 
 abbrev bindings_at : List Binding → Reading
-bindings_at bs = record { script = record { bindings = bs; area = codes ""; steps = 0; initial = []; dynamic = [] }; phase = phases.Bindings }
+bindings_at bs = record { script = record { bindings = bs; area = codes ""; steps = 0; initial = []; dynamic = []; mean = false }; phase = phases.Bindings }
 
 take_kind : (k : Kind) (bs : List Binding) (w : List ℕ) (t : Target) (rest : List Token) → go (record { script = (bindings_at bs).script; phase = phases.Bound w t }) (tokens.Mark marks.Colon ∷ tokens.Name (kind_word k) ∷ tokens.Mark marks.Semicolon ∷ rest) ≡ go (bindings_at (bs ++ record { name = w; target = t; kind = Some k } ∷ [])) rest
 take_kind Boolean bs w t rest = refl
@@ -426,17 +426,17 @@ take_entries (x ∷ xs) bs rest =
 -- ---- scripts
 
 -- statements that were added are those of the section
-all_static : (xs : List StatForm) (bs : List Binding) (area : List ℕ) (steps : ℕ) (ys zs : List Statement) → with_all (record { bindings = bs; area = area; steps = steps; initial = ys; dynamic = zs }) sections.Static xs ≡ record { bindings = bs; area = area; steps = steps; initial = ys ++ stats_trees xs; dynamic = zs }
-all_static [] bs area steps ys zs = ap (λ (us : List Statement). record { bindings = bs; area = area; steps = steps; initial = us; dynamic = zs }) (sym (append-nil ys))
-all_static (x ∷ xs) bs area steps ys zs = all_static xs bs area steps (ys ++ stat_tree x ∷ []) zs ∙ ap (λ (us : List Statement). record { bindings = bs; area = area; steps = steps; initial = us; dynamic = zs }) (append_assoc ys (stat_tree x ∷ []) (stats_trees xs))
+all_static : (xs : List StatForm) (bs : List Binding) (area : List ℕ) (steps : ℕ) (ys zs : List Statement) → with_all (record { bindings = bs; area = area; steps = steps; initial = ys; dynamic = zs; mean = false }) sections.Static xs ≡ record { bindings = bs; area = area; steps = steps; initial = ys ++ stats_trees xs; dynamic = zs; mean = false }
+all_static [] bs area steps ys zs = ap (λ (us : List Statement). record { bindings = bs; area = area; steps = steps; initial = us; dynamic = zs; mean = false }) (sym (append-nil ys))
+all_static (x ∷ xs) bs area steps ys zs = all_static xs bs area steps (ys ++ stat_tree x ∷ []) zs ∙ ap (λ (us : List Statement). record { bindings = bs; area = area; steps = steps; initial = us; dynamic = zs; mean = false }) (append_assoc ys (stat_tree x ∷ []) (stats_trees xs))
 
-all_initial : (xs : List StatForm) (bs : List Binding) (area : List ℕ) (steps : ℕ) (ys zs : List Statement) → with_all (record { bindings = bs; area = area; steps = steps; initial = ys; dynamic = zs }) sections.Initial xs ≡ record { bindings = bs; area = area; steps = steps; initial = ys ++ stats_trees xs; dynamic = zs }
-all_initial [] bs area steps ys zs = ap (λ (us : List Statement). record { bindings = bs; area = area; steps = steps; initial = us; dynamic = zs }) (sym (append-nil ys))
-all_initial (x ∷ xs) bs area steps ys zs = all_initial xs bs area steps (ys ++ stat_tree x ∷ []) zs ∙ ap (λ (us : List Statement). record { bindings = bs; area = area; steps = steps; initial = us; dynamic = zs }) (append_assoc ys (stat_tree x ∷ []) (stats_trees xs))
+all_initial : (xs : List StatForm) (bs : List Binding) (area : List ℕ) (steps : ℕ) (ys zs : List Statement) → with_all (record { bindings = bs; area = area; steps = steps; initial = ys; dynamic = zs; mean = false }) sections.Initial xs ≡ record { bindings = bs; area = area; steps = steps; initial = ys ++ stats_trees xs; dynamic = zs; mean = false }
+all_initial [] bs area steps ys zs = ap (λ (us : List Statement). record { bindings = bs; area = area; steps = steps; initial = us; dynamic = zs; mean = false }) (sym (append-nil ys))
+all_initial (x ∷ xs) bs area steps ys zs = all_initial xs bs area steps (ys ++ stat_tree x ∷ []) zs ∙ ap (λ (us : List Statement). record { bindings = bs; area = area; steps = steps; initial = us; dynamic = zs; mean = false }) (append_assoc ys (stat_tree x ∷ []) (stats_trees xs))
 
-all_dynamic : (xs : List StatForm) (bs : List Binding) (area : List ℕ) (steps : ℕ) (ys zs : List Statement) → with_all (record { bindings = bs; area = area; steps = steps; initial = ys; dynamic = zs }) sections.Dynamic xs ≡ record { bindings = bs; area = area; steps = steps; initial = ys; dynamic = zs ++ stats_trees xs }
-all_dynamic [] bs area steps ys zs = ap (λ (us : List Statement). record { bindings = bs; area = area; steps = steps; initial = ys; dynamic = us }) (sym (append-nil zs))
-all_dynamic (x ∷ xs) bs area steps ys zs = all_dynamic xs bs area steps ys (zs ++ stat_tree x ∷ []) ∙ ap (λ (us : List Statement). record { bindings = bs; area = area; steps = steps; initial = ys; dynamic = us }) (append_assoc zs (stat_tree x ∷ []) (stats_trees xs))
+all_dynamic : (xs : List StatForm) (bs : List Binding) (area : List ℕ) (steps : ℕ) (ys zs : List Statement) → with_all (record { bindings = bs; area = area; steps = steps; initial = ys; dynamic = zs; mean = false }) sections.Dynamic xs ≡ record { bindings = bs; area = area; steps = steps; initial = ys; dynamic = zs ++ stats_trees xs; mean = false }
+all_dynamic [] bs area steps ys zs = ap (λ (us : List Statement). record { bindings = bs; area = area; steps = steps; initial = ys; dynamic = us; mean = false }) (sym (append-nil zs))
+all_dynamic (x ∷ xs) bs area steps ys zs = all_dynamic xs bs area steps ys (zs ++ stat_tree x ∷ []) ∙ ap (λ (us : List Statement). record { bindings = bs; area = area; steps = steps; initial = ys; dynamic = us; mean = false }) (append_assoc zs (stat_tree x ∷ []) (stats_trees xs))
 
 take_binding : (bs : Option (List Binding)) (rest : List Token) → go new_reading (binding_on bs (tokens.Key keys.Areamap ∷ rest)) ≡ go (record { script = (bindings_at (unwrap_or bs [])).script; phase = phases.Areamap }) rest
 take_binding None rest = refl
@@ -447,19 +447,19 @@ abbrev pub script_section : SectionsForm → Section
 script_section (static ss) = sections.Static
 script_section (timed from to by initial dynamic) = sections.Dynamic
 
-take_initial : (initial : Option (List StatForm)) (bs : List Binding) (area : List ℕ) (steps : ℕ) (rest : List Token) → go (record { script = record { bindings = bs; area = area; steps = steps; initial = []; dynamic = [] }; phase = phases.Timed }) (initial_on initial (tokens.Key keys.Dynamic ∷ rest)) ≡ go (section_at (record { bindings = bs; area = area; steps = steps; initial = stats_trees (unwrap_or initial []); dynamic = [] }) sections.Dynamic) rest
+take_initial : (initial : Option (List StatForm)) (bs : List Binding) (area : List ℕ) (steps : ℕ) (rest : List Token) → go (record { script = record { bindings = bs; area = area; steps = steps; initial = []; dynamic = []; mean = false }; phase = phases.Timed }) (initial_on initial (tokens.Key keys.Dynamic ∷ rest)) ≡ go (section_at (record { bindings = bs; area = area; steps = steps; initial = stats_trees (unwrap_or initial []); dynamic = []; mean = false }) sections.Dynamic) rest
 take_initial None bs area steps rest = refl
 take_initial (Some ss) bs area steps rest =
-    take_stats ss (record { bindings = bs; area = area; steps = steps; initial = []; dynamic = [] }) sections.Initial (tokens.Key keys.Dynamic ∷ rest)
+    take_stats ss (record { bindings = bs; area = area; steps = steps; initial = []; dynamic = []; mean = false }) sections.Initial (tokens.Key keys.Dynamic ∷ rest)
     ∙ ap (λ (s : Script). go (section_at s sections.Initial) (tokens.Key keys.Dynamic ∷ rest)) (all_initial ss bs area steps [] [])
 
-take_sections : (c : SectionsForm) (bs : List Binding) (area : List ℕ) → go (record { script = record { bindings = bs; area = area; steps = 0; initial = []; dynamic = [] }; phase = phases.Covered }) (sections_on c []) ≡ done (section_at (script_tree (record { bindings = Some bs; area = area; sections = c })) (script_section c))
+take_sections : (c : SectionsForm) (bs : List Binding) (area : List ℕ) → go (record { script = record { bindings = bs; area = area; steps = 0; initial = []; dynamic = []; mean = false }; phase = phases.Covered }) (sections_on c []) ≡ done (section_at (script_tree (record { bindings = Some bs; area = area; sections = c })) (script_section c))
 take_sections (static ss) bs area =
-    take_stats ss (record { bindings = bs; area = area; steps = 0; initial = []; dynamic = [] }) sections.Static []
+    take_stats ss (record { bindings = bs; area = area; steps = 0; initial = []; dynamic = []; mean = false }) sections.Static []
     ∙ ap (λ (s : Script). done (section_at s sections.Static)) (all_static ss bs area 0 [] [])
 take_sections (timed from to by initial dynamic) bs area =
     take_initial initial bs area (steps_of to) (stats_on dynamic [])
-    ∙ (take_stats dynamic (record { bindings = bs; area = area; steps = steps_of to; initial = stats_trees (unwrap_or initial []); dynamic = [] }) sections.Dynamic []
+    ∙ (take_stats dynamic (record { bindings = bs; area = area; steps = steps_of to; initial = stats_trees (unwrap_or initial []); dynamic = []; mean = false }) sections.Dynamic []
     ∙ ap (λ (s : Script). done (section_at s sections.Dynamic)) (all_dynamic dynamic bs area (steps_of to) (stats_trees (unwrap_or initial [])) []))
 
 -- all tokens of a script are taken, and lead to its tree

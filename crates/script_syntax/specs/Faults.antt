@@ -1,5 +1,5 @@
 -- What a script text is, and the first fault of a text that is none.
-use Rattle.std.specs.Prelude.{◌≡◌, ℕ, ◌+◌, List, [], ◌∷◌, ◌++◌, map, Some, None, Result, Ok, Err}
+use Rattle.std.specs.Prelude.{◌≡◌, ℕ, ◌+◌, false, List, [], ◌∷◌, ◌++◌, map, Some, None, Result, Ok, Err}
 use Rattle.script_syntax.specs.declared.fault.SyntaxKind.{SyntaxKind}
 use Rattle.script_syntax.specs.declared.fault.SyntaxKind.TheVariants as kinds
 use Rattle.script_syntax.specs.declared.fault.SyntaxFault.{SyntaxFault}
@@ -7,6 +7,7 @@ use Rattle.script_syntax.specs.declared.token.Token.{Token}
 use Rattle.script_syntax.specs.declared.tree.Script.{Script}
 use Rattle.script_syntax.specs.declared.place.Place.{Place}
 use Rattle.script_syntax.specs.declared.scanner.Placed.{Placed}
+use Rattle.script_syntax.specs.Editions.{asks_mean}
 use Rattle.script_syntax.specs.Grammar.{Derives, IsViable}
 use Rattle.script_syntax.specs.Listed.{listed, IsClean}
 use Rattle.script_syntax.specs.Places.{first_place}
@@ -76,12 +77,13 @@ pub record IsFirstSyntaxFault (s : Scanned) (f : SyntaxFault) : Type 0 where
   pub clean : IsClean (tokens_of front)
   pub here : IsFault front back s.ending f.kind (fault_place f)
 
--- the text is a script, and this is its tree
+-- the text is a script, and this is its tree: its tokens derive it, but for the edition, which the first line tells
 pub record IsScript (text : List ℕ) (tree : Script) : Type 0 where
   pub scanned : Scanned
   pub tokens : AreScriptTokens text scanned
   pub whole : scanned.ending ≡ Whole
-  pub derives : Derives (tokens_of scanned.tokens) tree
+  pub derives : Derives (tokens_of scanned.tokens) (record tree { mean = false })
+  pub mean : tree.mean ≡ asks_mean text
   pub clean : IsClean (tokens_of scanned.tokens)
 
 -- the text is no script, and this is its first fault

@@ -354,7 +354,7 @@ abbrev pub dynamic_in : SectionsForm → List Statement
 dynamic_in (static ss) = []
 dynamic_in (timed from to by initial dynamic) = stats_trees dynamic
 
--- the tree of a script
+-- the tree of a script; tokens do not tell its edition, and this is that of a text whose first line asks for nothing
 abbrev pub script_tree : ScriptForm → Script
 script_tree s = record {
   bindings = unwrap_or s.bindings [];
@@ -362,6 +362,7 @@ script_tree s = record {
   steps = steps_in s.sections;
   initial = initial_in s.sections;
   dynamic = dynamic_in s.sections;
+  mean = false;
 }
 
 -- the tokens derive the tree

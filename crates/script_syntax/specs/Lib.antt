@@ -1,4 +1,5 @@
 pub mod Answers
+pub mod Editions
 pub mod Faults
 pub mod Grammar
 pub mod Listed

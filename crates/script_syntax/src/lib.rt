@@ -6,6 +6,7 @@
 #![tactic(auto)]
 
 mod counts;
+mod edition;
 mod fault;
 mod formula;
 mod frames;

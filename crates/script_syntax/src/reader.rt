@@ -4,12 +4,13 @@ ghost use Rattle.script_syntax.specs.declared.tree.Script.{Script};
 ghost use Rattle.script_syntax.specs.Answers.{Reads, TellsFault};
 ghost use Rattle.script_syntax.specs.Faults.{IsFaulty, IsScript};
 ghost use Rattle.script_syntax.specs.WellMade.{IsWellMade};
-ghost use Rattle.script_syntax.specs.inside.Reading.{syntax_fault_at, read_scanned, step_at, tree_of, tree_or_end};
+ghost use Rattle.script_syntax.specs.inside.Reading.{tree_by_tokens, read_scanned, step_at, syntax_fault_at, tree_of, tree_or_end};
 ghost use Rattle.script_syntax.specs.Listed.{counts_behind};
 ghost use Rattle.script_syntax.specs.inside.Scanner.{scan_of};
 ghost use Rattle.script_syntax.specs.inside.Readings.{finish};
 
 use crate::counts::Counts;
+use crate::edition::asks_mean;
 use crate::fault::{ReadScript, SyntaxFault, SyntaxKind};
 use crate::formula::Refused;
 use crate::place::Place;
@@ -86,13 +87,24 @@ fn read(alloc: Global, mut scanner: Scanner<'_>, mut reading: Reading) -> Result
     }
 }
 
-// What a text gives.
+// What the tokens of a text give.
 fn read_text(alloc: Global, text: &[u8]) -> Result<Script, ReadScript>
     requires { length text.now ≤ 268435456 }
-    ensures { Reads result (tree_of text.now) }
+    ensures { Reads result (tree_by_tokens text.now) }
 {
     let reading = Reading::new(alloc)?;
     read(alloc, Scanner::new(text), reading)
+}
+
+// What a text gives.
+#[tactic(auto, unfolding(crate::specs::inside::Reading::tree_of))]
+fn read_whole(alloc: Global, text: &[u8]) -> Result<Script, ReadScript>
+    requires { length text.now ≤ 268435456 }
+    ensures { Reads result (tree_of text.now) }
+{
+    let mut script = read_text(alloc, text)?;
+    script.mean = asks_mean(text);
+    Ok(script)
 }
 
 /// The tree of a script text of at most 268,435,456 bytes, or its first fault, in one pass over its bytes.
@@ -114,5 +126,5 @@ pub fn read_script(alloc: Global, text: &[u8]) -> Result<Script, ReadScript>
     // Which answer comes.
     ensures exact { Reads result (tree_of text.now) }
 {
-    read_text(alloc, text)
+    read_whole(alloc, text)
 }

@@ -369,6 +369,7 @@ impl Reading {
             steps: 0,
             initial: Items::new(alloc),
             dynamic: Items::new(alloc),
+            mean: false,
         };
         Ok(Reading {
             script,

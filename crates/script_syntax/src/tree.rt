@@ -14,6 +14,8 @@ pub struct Script {
     pub initial: Items<Statement>,
     /// The statements of the section `dynamic`.
     pub dynamic: Items<Statement>,
+    /// Whether time series are sampled by the mean over the cells of an id: the first line of the text asks for it.
+    pub mean: bool,
 }
 
 /// A name and what it stands for.

@@ -257,10 +257,10 @@ stack-good g role w stands row (u ∷ []) xs t hs ha hg hn ht h e =
 -- ---- samples
 
 -- the map is an input
-record IsInputTree (t : Tree) : Type 0 where
-  kind : Kind
-  number : ℕ
-  is : t ≡ tree.Input kind number
+pub record IsInputTree (t : Tree) : Type 0 where
+  pub kind : Kind
+  pub number : ℕ
+  pub is : t ≡ tree.Input kind number
 
 node-input : (x : Tree-F Tree) → is_input_tree (roll-Tree x) ≡ true → IsInputTree (roll-Tree x)
 node-input (Tree-F.Number k c) h = let z = sym (ap is_input_tree (tree.rolls-Number k c)) ∙ h in cc
@@ -272,7 +272,7 @@ node-input (Tree-F.Call k o args) h = let z = sym (ap is_input_tree (tree.rolls-
 node-input (Tree-F.CallWith k o file window args) h = let z = sym (ap is_input_tree (tree.rolls-CallWith k o file window args)) ∙ h in cc
 node-input (Tree-F.Mask args) h = let z = sym (ap is_input_tree (tree.rolls-Mask args)) ∙ h in cc
 
-input-tree : (t : Tree) → is_input_tree t ≡ true → IsInputTree t
+pub input-tree : (t : Tree) → is_input_tree t ≡ true → IsInputTree t
 input-tree = ind-Tree (λ t. is_input_tree t ≡ true → IsInputTree t) (λ x y is. node-input x)
 
 id-kind : (asked : Ask) (agreed k : Kind) → asks-ids asked ≡ true → allows agreed asked k ≡ true → is_id_kind k ≡ true
@@ -330,9 +330,11 @@ sample-of g w stands row agreed (u ∷ us) xs t hs hw ha hp hb h hm hk e =
   where
     by-args : (x : Argument) (ys : List Argument) → argument_at agreed row.first u ≡ Ok x → AllMaps g (x ∷ ys) → are_allowed row agreed 0 (map argument_kind (x ∷ ys)) ≡ true → sample_of (x ∷ ys) ≡ Ok t → IsGoodCall g w stands t
     by-args (argument.Map ids) (argument.Map v ∷ []) hx ms ks q =
-        let id = ids-good g ids (first-grid agreed row.first u ids (not-not (is_input_grid u) hb) hx) (id-kind row.first agreed ids.kind ha (both-left (allows agreed row.first ids.kind) (are_allowed row agreed (0 + 1) (map argument_kind (argument.Map v ∷ []))) ks)) ms.0 in
+        let of = id-kind row.first agreed ids.kind ha (both-left (allows agreed row.first ids.kind) (are_allowed row agreed (0 + 1) (map argument_kind (argument.Map v ∷ []))) ks) in
+        let grid = first-grid agreed row.first u ids (not-not (is_input_grid u) hb) hx in
+        let id = ids-good g ids grid of ms.0 in
         let later = both-left (allows agreed row.second v.kind) true (both-right (allows agreed row.first ids.kind) (allows agreed row.second v.kind && true) ks) in
-        subst (IsGoodCall g w stands) (ok-one q) (record { good = inl (λ role. (ms.1.0, id, hs, allowed-plain row.second agreed v.kind hp later)); word = hw })
+        subst (IsGoodCall g w stands) (ok-one q) (record { good = inl (λ role. (ms.1.0, record { good = ms.0; kind = of; input = grid; number = id }, hs, allowed-plain row.second agreed v.kind hp later)); word = hw })
     by-args (argument.Map ids) [] hx ms ks q = cc
     by-args (argument.Map ids) (argument.Map v ∷ y ∷ ys) hx ms ks q = cc
     by-args (argument.Map ids) (argument.File k n ∷ ys) hx ms ks q = absurd ms.1.0

@@ -24,6 +24,7 @@ use Rattle.map_meaning.specs.declared.tree.Tree.TheVariants as tree
 use Rattle.map_meaning.specs.Table.{is_kind}
 use Rattle.map_meaning.specs.Trees.{meaning_of}
 use Rattle.map_meaning.proofs.Callers.{meaning_of-Input, meaning_of-Name, meaning_of-Number, same_kind}
+use Rattle.map_meaning.specs.Programs.{is_id_kind}
 use Rattle.script_types.specs.declared.fault.MeaningKind.{MeaningKind}
 use Rattle.script_types.specs.declared.fault.MeaningKind.TheVariants.{BadStackName, DrainPlace, NameClash}
 use Rattle.script_types.specs.declared.typed.Typed.{Typed}
@@ -36,7 +37,7 @@ use Rattle.script_types.specs.Lowered.{input_as_used, used_kind, input_role}
 use Rattle.script_types.specs.Meaning.{is_bad_number}
 use Rattle.script_types.specs.Names.{is_bad_prefix, is_same_use, is_stack}
 use Rattle.script_types.specs.Statements.{is_dynamic}
-use Rattle.script_types.specs.Typing.{Scope, assigned_read, bound_read, cell_value, constant_read, input_as, input_checks, is_its_role, name_read, number_as, target_read}
+use Rattle.script_types.specs.Typing.{Scope, assigned_read, bound_read, cell_value, constant_read, input_as, input_checks, input_in, is_input_tree, is_its_role, name_read, number_as, target_read}
 use Rattle.script_types.specs.inside.Fits.{Ground, fits, is_ids, is_input_as, is_input_of, is_of, is_role}
 use Rattle.script_types.specs.inside.Sound.{is_cell, is_sound}
 use Rattle.script_types.proofs.FitLemmas.{both-left, both-right, fits-input-is, fits-name-is, fits-number-is}
@@ -95,6 +96,13 @@ pub record IsGood (g : Ground) (t : Tree) (kind : Kind) : Type 0 where
   pub of_kind : (meaning_of t).kind ≡ kind
   pub sound : is_sound t ≡ true
 
+-- it is an input that is a map of ids
+pub record IsIdsMap (g : Ground) (ids : Value) : Type 0 where
+  pub good : IsGood g ids.tree ids.kind
+  pub kind : is_id_kind ids.kind ≡ true
+  pub input : is_input_tree ids.tree ≡ true
+  pub number : is_ids g.inputs (input_in ids.tree) ≡ true
+
 -- What an expression is in a role fits, where it is a map or is sampled; and a table, a series or a stack is an input of its
 -- role and kind. What is sampled and a stack are no drain maps.
 abbrev pub IsGoodTyped : Ground → UsedAs → Typed → Type 0
@@ -102,7 +110,7 @@ IsGoodTyped g role (typed.Map v) = IsGood g v.tree v.kind
 IsGoodTyped g role (typed.Table kind n) = (keys : ℕ) × (role ≡ used.Table keys kind) × (is_input_of g.inputs (Table keys) kind n ≡ true)
 IsGoodTyped g role (typed.Series kind n) = (role ≡ used.Series kind) × (is_input_of g.inputs Series kind n ≡ true)
 IsGoodTyped g role (typed.Stack kind n) = (is_kind Ldd kind ≡ false) × (is_input_of g.inputs Stack kind n ≡ true)
-IsGoodTyped g role (typed.Sample ids v) = IsGood g v.tree v.kind × (is_ids g.inputs ids ≡ true) × (g.in_steps ≡ true) × (is_kind Ldd v.kind ≡ false)
+IsGoodTyped g role (typed.Sample ids v) = IsGood g v.tree v.kind × IsIdsMap g ids × (g.in_steps ≡ true) × (is_kind Ldd v.kind ≡ false)
 IsGoodTyped g role (typed.Literal text) = ⊤
 IsGoodTyped g role (typed.Constant text) = ⊤
 

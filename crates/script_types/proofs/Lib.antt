@@ -1,6 +1,7 @@
 mod BegunPrograms
 mod BindingLemmas
 mod CallAnswers
+pub mod Callers
 mod DrainInputs
 mod DrainOrder
 mod EmitDrains

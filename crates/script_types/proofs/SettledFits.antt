@@ -1,5 +1,5 @@
 -- That the right side of each settled statement fits where it stands.
-use Rattle.std.proofs.Common.{◌≡◌, ◌⊎◌, inl, inr, ◌<◌, ℕ, ◌+◌, Bool, true, false, ◌&&◌, ◌||◌, List, [], ◌∷◌, ◌++◌, map, length, refl, sym, ap, suc, subst, length-append, ◌∙◌, Result, Ok, Err, append_assoc, append-nil, if◌then◌else◌, arith}
+use Rattle.std.proofs.Common.{◌≡◌, ◌⊎◌, inl, inr, ◌<◌, ℕ, ◌+◌, Bool, true, false, ◌&&◌, ◌||◌, not, List, [], ◌∷◌, ◌++◌, map, length, refl, sym, ap, suc, subst, length-append, ◌∙◌, Result, Ok, Err, append_assoc, append-nil, if◌then◌else◌, arith}
 use Rattle.std.specs.Prelude.{⊤, IfSome, Option, None, Some, nat_le, nat_lt}
 use Rattle.std.specs.List.{list_all, list_any}
 use Rattle.std.specs.Option.{is_some, unwrap_or}
@@ -19,12 +19,13 @@ use Rattle.script_syntax.specs.declared.tree.Script.{Script}
 use Rattle.script_syntax.specs.declared.tree.Statement.{Statement}
 use Rattle.script_syntax.specs.declared.tree.Target.{Target}
 use Rattle.script_syntax.specs.declared.tree.Target.TheVariants as target
-use Rattle.map_meaning.specs.declared.op.Op.TheVariants.{CopyOf}
+use Rattle.map_meaning.specs.declared.op.Op.TheVariants.{AreaAverage, CopyOf}
 use Rattle.map_meaning.specs.declared.program.InputUse.{InputUse}
 use Rattle.map_meaning.specs.declared.tree.Tree.{Tree, roll-Tree}
 use Rattle.map_meaning.specs.declared.tree.Tree.TheVariants as tree
 use Rattle.map_meaning.specs.declared.tree.Tree.TheFolds.{ind-Tree}
 use Rattle.map_meaning.specs.declared.tree.Tree.TheOpen.{Tree-F}
+use Rattle.map_meaning.specs.Programs.{is_id_kind}
 use Rattle.map_meaning.specs.Table.{is_kind, row_of}
 use Rattle.map_meaning.specs.Trees.{meaning_of}
 use Rattle.map_meaning.proofs.Callers.{meaning_of-Mask, same_kind}
@@ -48,19 +49,19 @@ use Rattle.script_types.specs.Meaning.{area_checks, binding_checks, is_bad_numbe
 use Rattle.script_types.specs.Names.{binding_of, file_by, first_role, in_roles, is_assigned, is_bad_prefix, is_bound_to_number, is_sample, is_sampled, is_sampled_in, place_from}
 use Rattle.script_types.specs.Reports.{files_read, report_checks}
 use Rattle.map_meaning.specs.Limits.{most_operations, most_stacks}
-use Rattle.script_types.specs.Statements.{all_lines, asked_kind, bound_kind, counts, differs, free_side, is_call, is_dynamic, is_stack_report, kind_above, line_of_side, line_read, line_with, lines_below}
-use Rattle.script_types.specs.Statements.{next_line, operations_of, right_side, scope_at, side_checks, target_checks, told_at, whole_side, with_operation}
+use Rattle.script_types.specs.Statements.{all_lines, asked_kind, averages_of, bound_kind, counts, differs, free_side, is_call, is_dynamic, is_stack_report, kind_above, line_of_side, line_read, line_with, lines_below}
+use Rattle.script_types.specs.Statements.{next_line, operations_of, right_side, sampled_value, scope_at, side_checks, target_checks, told_at, whole_side, with_operation}
 use Rattle.script_types.specs.Table.{stands_of, word_row}
-use Rattle.script_types.specs.Typing.{Scope, assigned_read, bound_read, call_read, input_as, input_checks, name_read, number_as, target_read, typed_as}
+use Rattle.script_types.specs.Typing.{Scope, assigned_read, bound_read, call_read, input_as, input_checks, input_in, name_read, number_as, target_read, typed_as}
 use Rattle.script_types.specs.inside.Fits.{Ground, SideFits, fits, is_ids}
-use Rattle.script_types.specs.inside.FitLines.{Frame, LineFits, LinesFit, script_frame}
+use Rattle.script_types.specs.inside.FitLines.{AveragesAt, Frame, LineFits, LinesFit, script_frame}
 use Rattle.script_types.specs.inside.Sound.{are_sound, has_kinds, is_sound}
 use Rattle.script_types.proofs.RowKinds.{both-are}
 use Rattle.script_syntax.specs.Listed.{most_counted}
 use Rattle.script_syntax.specs.WellMade.{IsWellMade, calls_in, has_words, is_name, is_well_made_statement}
 use Rattle.script_types.proofs.Pairwise.{Each, each-append}
 use Rattle.script_types.proofs.FitLemmas.{both-left, both-right}
-use Rattle.script_types.proofs.FitCalls.{IsGoodMask, IsGoodWhole, IsOfWord, call-good}
+use Rattle.script_types.proofs.FitCalls.{IsGoodMask, IsGoodWhole, IsOfWord, call-good, input-tree}
 use Rattle.script_types.proofs.FitOperands.{AllGood}
 use Rattle.script_types.proofs.FitTrees.{call-fits}
 use Rattle.script_types.proofs.FitNodes.{IsGood, IsGoodScope, IsGoodTyped, ground-of, name-good, not-not, number-good, ok-one, passed-is, passed-rest, passed-test, value-before}
@@ -179,39 +180,77 @@ expression-good s inputs hs = ind-Expr (GoodAt s inputs) (λ x y is. subst (λ z
 
 -- A right side fits, has its kind and keeps to the table. Where it is sampled it is so in `dynamic` at a map of ids, by a time
 -- series, and is no drain map.
-pub record IsGoodSide (g : Ground) (x : Expr) (side : Side) : Type 0 where
+pub record IsGoodSide (g : Ground) (x : Expr) (mean : Bool) (side : Side) : Type 0 where
   pub value : SideFits g side.value.tree
   pub of_kind : (meaning_of side.value.tree).kind ≡ side.value.kind
   pub sound : is_sound side.value.tree ≡ true
   pub ids : IfSome side.sample (λ ids. is_ids g.inputs ids ≡ true)
+  pub means : mean ≡ true → IfSome side.sample (λ ids. AveragesAt ids side.value.tree)
   pub in_steps : is_some side.sample ≡ true → g.in_steps ≡ true
   pub word : is_some side.sample ≡ true → is_sample x ≡ true
   pub plain : is_some side.sample ≡ true → is_kind Ldd side.value.kind ≡ false
 
-whole-good : (g : Ground) (x : Expr) (v : Value) (side : Side) → IsGood g v.tree v.kind → whole_side v ≡ side → IsGoodSide g x side
-whole-good g x v side h k = subst (IsGoodSide g x) k (record { value = inl h.value; of_kind = h.of_kind; sound = h.sound; ids = tt; in_steps = λ q. cc; word = λ q. cc; plain = λ q. cc })
+whole-good : (g : Ground) (x : Expr) (mean : Bool) (v : Value) (side : Side) → IsGood g v.tree v.kind → whole_side v ≡ side → IsGoodSide g x mean side
+whole-good g x mean v side h k = subst (IsGoodSide g x mean) k (record { value = inl h.value; of_kind = h.of_kind; sound = h.sound; ids = tt; means = λ q. tt; in_steps = λ q. cc; word = λ q. cc; plain = λ q. cc })
 
-free-good : (g : Ground) (x : Expr) (asked : Kind) (text : List ℕ) (side : Side) → (free_side asked text >>= λ v. Ok (whole_side v)) ≡ Ok side → IsGoodSide g x side
-free-good g x asked text side h =
+free-good : (g : Ground) (x : Expr) (mean : Bool) (asked : Kind) (text : List ℕ) (side : Side) → (free_side asked text >>= λ v. Ok (whole_side v)) ≡ Ok side → IsGoodSide g x mean side
+free-good g x mean asked text side h =
     let a = value-before (free_side asked text) (λ v. Ok (whole_side v)) side h in
     let b = value-before (passed ((DrainPlace, is_kind Ldd asked) ∷ []) text) (λ t. number_as asked t) a.0 a.1 in
-    whole-good g x a.0 side (number-good g asked b.0 a.0 (passed-test (DrainPlace, is_kind Ldd asked) [] text b.0 b.1) b.2).0 (ok-one a.2)
+    whole-good g x mean a.0 side (number-good g asked b.0 a.0 (passed-test (DrainPlace, is_kind Ldd asked) [] text b.0 b.1) b.2).0 (ok-one a.2)
 
-mask-good : (g : Ground) (x : Expr) (asked : Kind) (t : Typed) (side : Side) → IsGoodMask g t → right_side asked t ≡ Ok side → IsGoodSide g x side
-mask-good g x asked t side m h = subst (IsGoodSide g x) (ok-one (ap (right_side asked) m.is ∙ h)) (record { value = inr m.mask; of_kind = m.of_kind; sound = m.sound; ids = tt; in_steps = λ q. cc; word = λ q. cc; plain = λ q. cc })
+mask-good : (g : Ground) (x : Expr) (mean : Bool) (asked : Kind) (t : Typed) (side : Side) → IsGoodMask g t → right_side mean asked t ≡ Ok side → IsGoodSide g x mean side
+mask-good g x mean asked t side m h = subst (IsGoodSide g x mean) (ok-one (ap (right_side mean asked) m.is ∙ h)) (record { value = inr m.mask; of_kind = m.of_kind; sound = m.sound; ids = tt; means = λ q. tt; in_steps = λ q. cc; word = λ q. cc; plain = λ q. cc })
 
-typed-good : (g : Ground) (x : Expr) (asked : Kind) (t : Typed) (side : Side) → IsGoodTyped g used.Grid t → IsOfExpr x t → right_side asked t ≡ Ok side → IsGoodSide g x side
-typed-good g x asked (typed.Literal text) side ht hw h = free-good g x asked text side h
-typed-good g x asked (typed.Constant text) side ht hw h = free-good g x asked text side h
-typed-good g x asked (typed.Map u) side ht hw h = whole-good g x u side ht (ok-one h)
-typed-good g x asked (typed.Sample ids v) side ht hw h = subst (IsGoodSide g x) (ok-one h) (record { value = inl ht.0.value; of_kind = ht.0.of_kind; sound = ht.0.sound; ids = ht.1; in_steps = λ q. ht.2; word = λ q. hw; plain = λ q. ht.3 })
-typed-good g x asked (typed.Table kind n) side ht hw h = cc
-typed-good g x asked (typed.Series kind n) side ht hw h = cc
-typed-good g x asked (typed.Stack kind n) side ht hw h = cc
+-- an average over ids keeps to the table
+average-kinds : (kind : Kind) → is_id_kind kind ≡ true → has_kinds (row_of AreaAverage) (Scalar ∷ kind ∷ []) Scalar ≡ true
+unfolding row_of
+average-kinds Boolean h = refl
+average-kinds Nominal h = refl
+average-kinds Ordinal h = refl
+average-kinds Scalar h = cc
+average-kinds Directional h = cc
+average-kinds Ldd h = cc
 
-side-good : (g : Ground) (x : Expr) (asked : Kind) (t : Typed) (side : Side) → IsGoodIn g true used.Grid t → IsOfExpr x t → right_side asked t ≡ Ok side → IsGoodSide g x side
-side-good g x asked t side (inl ht) hw h = typed-good g x asked t side ht hw h
-side-good g x asked t side (inr ht) hw h = mask-good g x asked t side ht.2 h
+-- so the averages of a scalar map fit
+averages-good : (g : Ground) (ids v : Value) → IsGood g v.tree v.kind → IsGood g ids.tree ids.kind → is_id_kind ids.kind ≡ true → Scalar ≡ v.kind → IsGood g (averages_of ids v).tree Scalar
+averages-good g ids v hv hi hk hs =
+    call-fits g Scalar AreaAverage (v.tree ∷ ids.tree ∷ [])
+    (both-are (fits g v.tree) (fits g ids.tree && true) hv.value (both-are (fits g ids.tree) true hi.value refl))
+    (both-are (is_sound v.tree) (is_sound ids.tree && true) hv.sound (both-are (is_sound ids.tree) true hi.sound refl))
+    refl
+    (ap (λ k. has_kinds (row_of AreaAverage) (k ∷ (meaning_of ids.tree).kind ∷ []) Scalar) (hv.of_kind ∙ sym hs) ∙ ap (λ k. has_kinds (row_of AreaAverage) (Scalar ∷ k ∷ []) Scalar) hi.of_kind ∙ average-kinds ids.kind hk)
+    refl
+
+-- what is sampled, and at which ids
+abbrev sample-side : Value → Value → Side
+sample-side ids w = record { value = w; sample = Some (input_in ids.tree) }
+
+sampled-good : (g : Ground) (x : Expr) (mean : Bool) (ids v : Value) (side : Side) → IsGoodTyped g used.Grid (typed.Sample ids v) → is_sample x ≡ true → (sampled_value mean ids v >>= λ w. Ok (sample-side ids w)) ≡ Ok side → IsGoodSide g x mean side
+sampled-good g x false ids v side ht hw h = subst (IsGoodSide g x false) (ok-one h) (record { value = inl ht.0.value; of_kind = ht.0.of_kind; sound = ht.0.sound; ids = ht.1.number; means = λ q. cc; in_steps = λ q. ht.2; word = λ q. hw; plain = λ q. ht.3 })
+sampled-good g x true ids v side ht hw h =
+    let test : MeaningKind × Bool = (KindMismatch, not (is_kind Scalar v.kind)) in
+    let b = value-before (passed (test ∷ []) (averages_of ids v)) (λ w. Ok (sample-side ids w)) side h in
+    let is = passed-is (test ∷ []) (averages_of ids v) b.0 b.1 in
+    let of = same_kind Scalar v.kind (not-not (is_kind Scalar v.kind) (passed-test test [] (averages_of ids v) b.0 b.1)) in
+    let good = averages-good g ids v ht.0 ht.1.good ht.1.kind of in
+    let input = input-tree ids.tree ht.1.input in
+    let of_ids : tree.Input input.kind input.number ≡ tree.Input input.kind (input_in ids.tree) = ap (tree.Input input.kind) (sym (ap input_in input.is)) in
+    let means : AveragesAt (input_in ids.tree) (averages_of ids v).tree = (v.tree, input.kind, ap (λ t. tree.Call Scalar AreaAverage (v.tree ∷ t ∷ [])) (input.is ∙ of_ids)) in
+    subst (IsGoodSide g x true) (ap (sample-side ids) is ∙ ok-one b.2) (record { value = inl good.value; of_kind = good.of_kind; sound = good.sound; ids = ht.1.number; means = λ q. means; in_steps = λ q. ht.2; word = λ q. hw; plain = λ q. refl })
+
+typed-good : (g : Ground) (x : Expr) (mean : Bool) (asked : Kind) (t : Typed) (side : Side) → IsGoodTyped g used.Grid t → IsOfExpr x t → right_side mean asked t ≡ Ok side → IsGoodSide g x mean side
+typed-good g x mean asked (typed.Literal text) side ht hw h = free-good g x mean asked text side h
+typed-good g x mean asked (typed.Constant text) side ht hw h = free-good g x mean asked text side h
+typed-good g x mean asked (typed.Map u) side ht hw h = whole-good g x mean u side ht (ok-one h)
+typed-good g x mean asked (typed.Sample ids v) side ht hw h = sampled-good g x mean ids v side ht hw h
+typed-good g x mean asked (typed.Table kind n) side ht hw h = cc
+typed-good g x mean asked (typed.Series kind n) side ht hw h = cc
+typed-good g x mean asked (typed.Stack kind n) side ht hw h = cc
+
+side-good : (g : Ground) (x : Expr) (mean : Bool) (asked : Kind) (t : Typed) (side : Side) → IsGoodIn g true used.Grid t → IsOfExpr x t → right_side mean asked t ≡ Ok side → IsGoodSide g x mean side
+side-good g x mean asked t side (inl ht) hw h = typed-good g x mean asked t side ht hw h
+side-good g x mean asked t side (inr ht) hw h = mask-good g x mean asked t side ht.2 h
 
 -- ---- statements
 
@@ -305,7 +344,7 @@ pub record IsLineOf (s : Scope) (before : ℕ) (st : Statement) (l : Line) : Typ
   pub typed_is : Typed
   pub typed : typed_as s st.expr true used.Grid ≡ Ok typed_is
   pub side : Side
-  pub sided : right_side (asked_kind (s.above st.name) (bound_kind (s.binding st.name))) typed_is ≡ Ok side
+  pub sided : right_side s.mean (asked_kind (s.above st.name) (bound_kind (s.binding st.name))) typed_is ≡ Ok side
   pub is : l ≡ line-of s st side
   pub drain : (is_dynamic s.section && is_kind Ldd side.value.kind) ≡ false
   pub passed : HasPassed s before st (is_some side.sample) side.value.kind (whole-of side)
@@ -329,8 +368,8 @@ pub line-parts : (s : Scope) (before : ℕ) (st : Statement) (l : Line) → line
 unfolding line_read
 line-parts s before st l h =
     let asked = asked_kind (s.above st.name) (bound_kind (s.binding st.name)) in
-    let b = value-before (typed_as s st.expr true used.Grid) (λ t. right_side asked t >>= λ side. line_of_side s before st side) l h in
-    let c = value-before (right_side asked b.0) (λ side. line_of_side s before st side) l b.2 in
+    let b = value-before (typed_as s st.expr true used.Grid) (λ t. right_side s.mean asked t >>= λ side. line_of_side s before st side) l h in
+    let c = value-before (right_side s.mean asked b.0) (λ side. line_of_side s before st side) l b.2 in
     let target = target-passes s before st c.0 l c.2 in
     record {
       typed_is = b.0;
@@ -366,6 +405,19 @@ no-sample : (o : Option ℕ) (drain : Bool) → (is_some o ≡ true → drain �
 no-sample None drain h k = refl
 no-sample (Some ids) drain h k = let z = sym (h refl) ∙ k in cc
 
+-- what is sampled stays what it is
+with-sampled : (kind : Kind) (t : Tree) → with_operation true kind t ≡ t
+with-sampled kind t = by (is_call t) (is_kind Ldd kind)
+  where
+    by : (c l : Bool) → (if c || l || true then t else tree.Call kind CopyOf (t ∷ [])) ≡ t
+    by true l = refl
+    by false true = refl
+    by false false = refl
+
+whole-means : (o : Option ℕ) (v : Value) → IfSome o (λ ids. AveragesAt ids v.tree) → IfSome o (λ ids. AveragesAt ids (with_operation (is_some o) v.kind v.tree))
+whole-means None v h = tt
+whole-means (Some ids) v h = subst (AveragesAt ids) (sym (with-sampled v.kind v.tree)) h
+
 -- a statement
 line-good : (script : Script) (section : Section) (above : List Line) (before : ℕ) (st : Statement) (l : Line) → IsGoodScope (scope_at script section above) (inputs_of script) → (is_sample st.expr ≡ true → is_sampled script st.name ≡ true) → line_read (scope_at script section above) before st ≡ Ok l → IsGoodLine script above l
 line-good script section above before st l hs hd h =
@@ -373,7 +425,7 @@ line-good script section above before st l hs hd h =
     let g = ground-of s (inputs_of script) in
     let p = line-parts s before st l h in
     let at = expression-good s (inputs_of script) hs st.expr true used.Grid p.typed_is p.typed in
-    let side = side-good g st.expr (asked_kind (s.above st.name) (bound_kind (s.binding st.name))) p.typed_is p.side at.good at.word p.sided in
+    let side = side-good g st.expr s.mean (asked_kind (s.above st.name) (bound_kind (s.binding st.name))) p.typed_is p.side at.good at.word p.sided in
     let w = with-good g (is_some p.side.sample) p.side.value.tree p.side.value.kind side.value side.of_kind side.sound in
     subst (IsGoodLine script above) (sym p.is) (record {
       fits = record {
@@ -383,6 +435,7 @@ line-good script section above before st l hs hd h =
         operation = λ q r. w.operation (none-sampled p.side.sample q) r;
         drain = λ q. (in-initial section (is_kind Ldd p.side.value.kind) p.drain q, no-sample p.side.sample (is_kind Ldd p.side.value.kind) side.plain q);
         ids = side.ids;
+        means = λ q. whole-means p.side.sample p.side.value (side.means q);
         sampled = λ q. hd (side.word q);
         in_steps = λ q. in-dynamic section (side.in_steps q);
       };

@@ -56,15 +56,15 @@ pub above-push : (ls : List Line) (l : Line) (name : List ℕ) → kind_above (l
 above-push [] l name = refl
 above-push (m ∷ ms) l name = ap (λ r. or_kind r (if bytes_eq name m.statement.target then Some m.kind else None)) (above-push ms l name) ∙ last-else (bytes_eq name l.statement.target) l.kind (kind_above ms name) (if bytes_eq name m.statement.target then Some m.kind else None)
 
-abbrev the-scope : Section → ℕ → (List ℕ → Option Binding) → (List ℕ → Bool) → (List ℕ → Bool) → (List ℕ → Option UsedAs) → (List ℕ → Option ℕ) → (List ℕ → Option Kind) → ℕ → ℕ → Scope
-the-scope s n b t m r i a w k = record { section = s; steps = n; binding = b; is_assigned = t; is_sampled = m; role = r; input = i; above = a; stacks_written = w; stacks_read = k }
+abbrev the-scope : Section → ℕ → Bool → (List ℕ → Option Binding) → (List ℕ → Bool) → (List ℕ → Bool) → (List ℕ → Option UsedAs) → (List ℕ → Option ℕ) → (List ℕ → Option Kind) → ℕ → ℕ → Scope
+the-scope s n e b t m r i a w k = record { section = s; steps = n; mean = e; binding = b; is_assigned = t; is_sampled = m; role = r; input = i; above = a; stacks_written = w; stacks_read = k }
 
-nine : {x₁ y₁ : Section} {x₂ y₂ : ℕ} {x₃ y₃ : List ℕ → Option Binding} {x₄ y₄ x₅ y₅ : List ℕ → Bool} {x₆ y₆ : List ℕ → Option UsedAs} {x₇ y₇ : List ℕ → Option ℕ} {x₈ y₈ : List ℕ → Option Kind} {x₉ y₉ : ℕ} (k : ℕ) → x₁ ≡ y₁ → x₂ ≡ y₂ → x₃ ≡ y₃ → x₄ ≡ y₄ → x₅ ≡ y₅ → x₆ ≡ y₆ → x₇ ≡ y₇ → x₈ ≡ y₈ → x₉ ≡ y₉ → the-scope x₁ x₂ x₃ x₄ x₅ x₆ x₇ x₈ x₉ k ≡ the-scope y₁ y₂ y₃ y₄ y₅ y₆ y₇ y₈ y₉ k
-nine {x₁ = x₁} {y₁ = y₁} {x₂ = x₂} {y₂ = y₂} {x₃ = x₃} {y₃ = y₃} {x₄ = x₄} {y₄ = y₄} {x₅ = x₅} {y₅ = y₅} {x₆ = x₆} {y₆ = y₆} {x₇ = x₇} {y₇ = y₇} {x₈ = x₈} {y₈ = y₈} {x₉ = x₉} {y₉ = y₉} k a b c d e f g h i = ap (λ z. the-scope z x₂ x₃ x₄ x₅ x₆ x₇ x₈ x₉ k) a ∙ ap (λ z. the-scope y₁ z x₃ x₄ x₅ x₆ x₇ x₈ x₉ k) b ∙ ap (λ z. the-scope y₁ y₂ z x₄ x₅ x₆ x₇ x₈ x₉ k) c ∙ ap (λ z. the-scope y₁ y₂ y₃ z x₅ x₆ x₇ x₈ x₉ k) d ∙ ap (λ z. the-scope y₁ y₂ y₃ y₄ z x₆ x₇ x₈ x₉ k) e ∙ ap (λ z. the-scope y₁ y₂ y₃ y₄ y₅ z x₇ x₈ x₉ k) f ∙ ap (λ z. the-scope y₁ y₂ y₃ y₄ y₅ y₆ z x₈ x₉ k) g ∙ ap (λ z. the-scope y₁ y₂ y₃ y₄ y₅ y₆ y₇ z x₉ k) h ∙ ap (λ z. the-scope y₁ y₂ y₃ y₄ y₅ y₆ y₇ y₈ z k) i
+ten : {x₁ y₁ : Section} {x₂ y₂ : ℕ} {x₃ y₃ : Bool} {x₄ y₄ : List ℕ → Option Binding} {x₅ y₅ : List ℕ → Bool} {x₆ y₆ : List ℕ → Bool} {x₇ y₇ : List ℕ → Option UsedAs} {x₈ y₈ : List ℕ → Option ℕ} {x₉ y₉ : List ℕ → Option Kind} {x₀ y₀ : ℕ} (k : ℕ) → x₁ ≡ y₁ → x₂ ≡ y₂ → x₃ ≡ y₃ → x₄ ≡ y₄ → x₅ ≡ y₅ → x₆ ≡ y₆ → x₇ ≡ y₇ → x₈ ≡ y₈ → x₉ ≡ y₉ → x₀ ≡ y₀ → the-scope x₁ x₂ x₃ x₄ x₅ x₆ x₇ x₈ x₉ x₀ k ≡ the-scope y₁ y₂ y₃ y₄ y₅ y₆ y₇ y₈ y₉ y₀ k
+ten {x₁ = x₁} {y₁ = y₁} {x₂ = x₂} {y₂ = y₂} {x₃ = x₃} {y₃ = y₃} {x₄ = x₄} {y₄ = y₄} {x₅ = x₅} {y₅ = y₅} {x₆ = x₆} {y₆ = y₆} {x₇ = x₇} {y₇ = y₇} {x₈ = x₈} {y₈ = y₈} {x₉ = x₉} {y₉ = y₉} {x₀ = x₀} {y₀ = y₀} k a b c d e f g h i j = ap (λ z. the-scope z x₂ x₃ x₄ x₅ x₆ x₇ x₈ x₉ x₀ k) a ∙ ap (λ z. the-scope y₁ z x₃ x₄ x₅ x₆ x₇ x₈ x₉ x₀ k) b ∙ ap (λ z. the-scope y₁ y₂ z x₄ x₅ x₆ x₇ x₈ x₉ x₀ k) c ∙ ap (λ z. the-scope y₁ y₂ y₃ z x₅ x₆ x₇ x₈ x₉ x₀ k) d ∙ ap (λ z. the-scope y₁ y₂ y₃ y₄ z x₆ x₇ x₈ x₉ x₀ k) e ∙ ap (λ z. the-scope y₁ y₂ y₃ y₄ y₅ z x₇ x₈ x₉ x₀ k) f ∙ ap (λ z. the-scope y₁ y₂ y₃ y₄ y₅ y₆ z x₈ x₉ x₀ k) g ∙ ap (λ z. the-scope y₁ y₂ y₃ y₄ y₅ y₆ y₇ z x₉ x₀ k) h ∙ ap (λ z. the-scope y₁ y₂ y₃ y₄ y₅ y₆ y₇ y₈ z x₀ k) i ∙ ap (λ z. the-scope y₁ y₂ y₃ y₄ y₅ y₆ y₇ y₈ y₉ z k) j
 
 -- the scope with another count of stacks that are read
 abbrev with-read : Scope → ℕ → Scope
-with-read sc k = the-scope sc.section sc.steps sc.binding sc.is_assigned sc.is_sampled sc.role sc.input sc.above sc.stacks_written k
+with-read sc k = the-scope sc.section sc.steps sc.mean sc.binding sc.is_assigned sc.is_sampled sc.role sc.input sc.above sc.stacks_written k
 
 -- how many stacks are read does not touch what an expression is
 typed-blind : (sc : Scope) (m n : ℕ) → typed_as (with-read sc m) ≡ typed_as (with-read sc n)
@@ -93,8 +93,8 @@ line-blind : (sc : Scope) (m n before : ℕ) (s : Statement) → nat_lt most_sta
 unfolding line_read
 line-blind sc m n before s h =
     let asked = asked_kind (sc.above s.name) (bound_kind (sc.binding s.name)) in
-    ap (λ f. f s.expr true used.Grid >>= λ t. right_side asked t >>= side-by sc before s (nat_lt most_stacks m)) (typed-blind sc m n)
-    ∙ ap (λ many. typed_as (with-read sc n) s.expr true used.Grid >>= λ t. right_side asked t >>= side-by sc before s many) h
+    ap (λ f. f s.expr true used.Grid >>= λ t. right_side sc.mean asked t >>= side-by sc before s (nat_lt most_stacks m)) (typed-blind sc m n)
+    ∙ ap (λ many. typed_as (with-read sc n) s.expr true used.Grid >>= λ t. right_side sc.mean asked t >>= side-by sc before s many) h
 
 -- the tables' binding of a name is the script's
 pub same-binding : (script : Script) (scope : Tables) (lines : List Line) → StandsBelow script scope lines → (name : List ℕ) → binding_in scope name ≡ binding_of script name
@@ -153,7 +153,7 @@ at-next scope seen k = record scope { seen = seen; stacks_read = k }
 
 -- the code's tables are the names of the definition
 same-line : (script : Script) (section : Section) (scope : Tables) (seen : Names UsedAs) (k : ℕ) (lines : List Line) (before : ℕ) (s : Statement) → StandsBelow script scope lines → scope.section ≡ section → nat_lt most_stacks k ≡ nat_lt most_stacks (stacks_down_to script (length lines + 1)) → line_read (scope_of (at-next scope seen k)) before s ≡ line_read (scope_at script section lines) before s
-same-line script section scope seen k lines before s b hs h = ap (λ sc. line_read sc before s) (nine k hs b.steps (fun_ext (same-binding script scope lines b)) (fun_ext b.targets) (fun_ext b.samples) (fun_ext b.roles) (fun_ext b.inputs) (fun_ext b.above) b.stacks_written) ∙ line-blind (scope_at script section lines) k (stacks_down_to script (length lines + 1)) before s h
+same-line script section scope seen k lines before s b hs h = ap (λ sc. line_read sc before s) (ten k hs b.steps b.mean (fun_ext (same-binding script scope lines b)) (fun_ext b.targets) (fun_ext b.samples) (fun_ext b.roles) (fun_ext b.inputs) (fun_ext b.above) b.stacks_written) ∙ line-blind (scope_at script section lines) k (stacks_down_to script (length lines + 1)) before s h
 
 -- the next line, by the tables
 pub next-is : (script : Script) (section : Section) (scope : Tables) (seen : Names UsedAs) (k : ℕ) (lines : List Line) (count : ℕ) (s : Statement) (r : Result Line MeaningKind) → StandsBelow script scope lines → scope.section ≡ section → IsCount section count lines → k ≡ with_uses unknown (uses_down_to script (length lines + 1)) 0 → line_read (scope_of (at-next scope seen k)) count s ≡ r → next_line script section lines s ≡ told_at (place.Statement (length lines + 1)) r

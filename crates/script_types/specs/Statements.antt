@@ -10,7 +10,7 @@ use Rattle.cell_values.specs.declared.kind.Kind.TheVariants.{Scalar, Ldd}
 use Rattle.script_syntax.specs.declared.tree.Binding.{Binding}
 use Rattle.script_syntax.specs.declared.tree.Statement.{Statement}
 use Rattle.script_syntax.specs.declared.tree.Script.{Script}
-use Rattle.map_meaning.specs.declared.op.Op.TheVariants.{CopyOf}
+use Rattle.map_meaning.specs.declared.op.Op.TheVariants.{AreaAverage, CopyOf}
 use Rattle.map_meaning.specs.declared.tree.Tree.{Tree}
 use Rattle.map_meaning.specs.declared.tree.Tree.TheVariants as tree
 use Rattle.map_meaning.specs.Limits.{most_operations, most_stacks}
@@ -32,7 +32,7 @@ use Rattle.script_types.specs.declared.typed.UsedAs.TheVariants as used
 use Rattle.script_types.specs.Checks.{passed}
 use Rattle.script_types.specs.Names.{binding_of, file_by, input_number, is_assigned}
 use Rattle.script_types.specs.Names.{is_bad_prefix, is_bound_to_number, is_sampled, role_of, script_uses, stacks_down_to}
-use Rattle.script_types.specs.Typing.{Scope, typed_as, number_as, or_kind}
+use Rattle.script_types.specs.Typing.{Scope, input_in, typed_as, number_as, or_kind}
 
 -- the section is `dynamic`
 abbrev pub is_dynamic : Section → Bool
@@ -64,6 +64,7 @@ abbrev pub scope_at : Script → Section → List Line → Scope
 scope_at script section lines = record {
   section = section;
   steps = script.steps;
+  mean = script.mean;
   binding = binding_of script;
   is_assigned = is_assigned script;
   role = role_of (script_uses script);
@@ -111,13 +112,24 @@ free_side kind text = passed ((DrainPlace, is_kind Ldd kind) ∷ []) text >>= λ
 abbrev pub whole_side : Value → Side
 whole_side v = record { value = v; sample = None }
 
--- a right side whose target has this kind
-abbrev pub right_side : Kind → Typed → Result Side MeaningKind
-right_side asked (typed.Literal text) = free_side asked text >>= λ v. Ok (whole_side v)
-right_side asked (typed.Constant text) = free_side asked text >>= λ v. Ok (whole_side v)
-right_side asked (typed.Map v) = Ok (whole_side v)
-right_side asked (typed.Sample ids v) = Ok (record { value = v; sample = Some ids })
-right_side asked _ = Err KindMismatch
+-- the averages of a map over the areas of ids
+abbrev pub averages_of : Value → Value → Value
+averages_of ids v = record { kind = Scalar; tree = tree.Call Scalar AreaAverage (v.tree ∷ ids.tree ∷ []) }
+
+-- What a time series samples at the places of ids: the map, or, where it is sampled by the mean, its averages over the areas of the
+-- ids. A mean is one of scalars.
+abbrev pub sampled_value : Bool → Value → Value → Result Value MeaningKind
+sampled_value false ids v = Ok v
+sampled_value true ids v = passed ((KindMismatch, not (is_kind Scalar v.kind)) ∷ []) (averages_of ids v)
+
+-- a right side whose target has this kind, where time series are sampled by the mean or are not
+abbrev pub right_side : Bool → Kind → Typed → Result Side MeaningKind
+right_side mean asked (typed.Literal text) = free_side asked text >>= λ v. Ok (whole_side v)
+right_side mean asked (typed.Constant text) = free_side asked text >>= λ v. Ok (whole_side v)
+right_side mean asked (typed.Map v) = Ok (whole_side v)
+right_side mean asked (typed.Sample ids v) =
+    sampled_value mean ids v >>= λ w. Ok (record { value = w; sample = Some (input_in ids.tree) })
+right_side mean asked _ = Err KindMismatch
 
 -- A statement of kind ldd stands in `initial`.
 abbrev pub side_checks : Section → Kind → List (MeaningKind × Bool)
@@ -129,7 +141,7 @@ is_call (tree.Call' kind op shape operands) = true
 is_call (tree.CallWith' kind op file window shape operands) = true
 is_call _ = false
 
--- A right side without an operation has one, a copy; a drain map has none, and neither has a time series of its own.
+-- A right side without an operation has one, a copy; a drain map has none, and neither has what a time series samples.
 abbrev pub with_operation : Bool → Kind → Tree → Tree
 with_operation sampled kind t = if is_call t || is_kind Ldd kind || sampled then t else tree.Call kind CopyOf (t ∷ [])
 
@@ -176,7 +188,7 @@ line_of_side scope before s side =
 unfoldable pub line_read : Scope → ℕ → Statement → Result Line MeaningKind
 line_read scope before s =
     typed_as scope s.expr true used.Grid >>= λ t.
-    right_side (asked_kind (scope.above s.name) (bound_kind (scope.binding s.name))) t >>= λ side.
+    right_side scope.mean (asked_kind (scope.above s.name) (bound_kind (scope.binding s.name))) t >>= λ side.
     line_of_side scope before s side
 
 -- ---- all statements

@@ -49,6 +49,8 @@ pub record Scope : Type 0 where
   pub section : Section
   -- the last step
   pub steps : ℕ
+  -- whether time series are sampled by the mean
+  pub mean : Bool
   -- the binding of a name
   pub binding : List ℕ → Option Binding
   -- whether a statement of the script assigns a name
@@ -249,7 +251,7 @@ input_in _ = 0
 
 -- a map that is sampled at the ids of another
 abbrev pub sample_of : List Argument → Result Typed MeaningKind
-sample_of (argument.Map ids ∷ argument.Map v ∷ []) = Ok (typed.Sample (input_in ids.tree) v)
+sample_of (argument.Map ids ∷ argument.Map v ∷ []) = Ok (typed.Sample ids v)
 sample_of _ = Err KindMismatch
 
 -- what a row stands for, on operands that stand at their places

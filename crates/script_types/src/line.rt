@@ -2,7 +2,8 @@ ghost use Rattle.std.specs.Prelude.{◌≡◌, ◌+◌, ◌≤◌, IfOk, if◌th
 ghost use Rattle.std.specs.Option.{option_copied};
 ghost use Rattle.map_meaning.specs.Limits.{most_operations, most_stacks};
 ghost use Rattle.script_types.specs.Names.{is_bound_to_number};
-ghost use Rattle.script_types.specs.Statements.{asked_kind, bound_kind, differs, free_side, is_call, is_dynamic, is_stack_report, line_of_side, line_read, operations_of, right_side, whole_side, with_operation, writes_stack};
+ghost use Rattle.script_types.specs.Statements.{asked_kind, bound_kind, differs, free_side, is_call, is_dynamic, is_stack_report, line_of_side, line_read, operations_of, right_side, sampled_value, whole_side, with_operation, writes_stack};
+ghost use Rattle.script_types.specs.Typing.{input_in};
 ghost use Rattle.script_types.specs.inside.Answers.{CountsUpTo, GivesLine};
 ghost use Rattle.script_types.specs.inside.Scopes.{GivesKind, scope_of};
 
@@ -92,18 +93,54 @@ fn whole_side(value: Value) -> Side
     }
 }
 
+// The number of the input that the map is.
+fn input_in(tree: &Tree) -> u32
+    ensures { result ≡ input_in tree.now }
+{
+    match tree {
+        Tree::Input { input, .. } => *input,
+        _ => 0,
+    }
+}
+
+// What a time series samples at the places of ids.
+fn sampled_value(alloc: Global, mean: bool, ids: Value, value: Value) -> Result<Value, KindEnd>
+    ensures { GivesKind result (sampled_value mean ids value) }
+{
+    if !mean {
+        return Ok(value);
+    }
+    if !is_kind(Kind::Scalar, value.kind) {
+        return Err(KindEnd::Meaning(MeaningKind::KindMismatch));
+    }
+    let mut operands = Items::new(alloc);
+    operands.push(value.tree)?;
+    operands.push(ids.tree)?;
+    Ok(Value {
+        kind: Kind::Scalar,
+        tree: Tree::Call {
+            kind: Kind::Scalar,
+            op: Op::AreaAverage,
+            operands,
+        },
+    })
+}
+
 // A right side whose target has this kind.
-fn right_side(asked: Kind, typed: Typed) -> Result<Side, KindEnd>
-    ensures { GivesKind result (right_side asked typed) }
+fn right_side(alloc: Global, mean: bool, asked: Kind, typed: Typed) -> Result<Side, KindEnd>
+    ensures { GivesKind result (right_side mean asked typed) }
 {
     match typed {
         Typed::Literal(text) => Ok(whole_side(free_side(asked, text.bytes())?)),
         Typed::Constant(text) => Ok(whole_side(free_side(asked, text.bytes())?)),
         Typed::Map(value) => Ok(whole_side(value)),
-        Typed::Sample { ids, value } => Ok(Side {
-            value,
-            sample: Some(ids),
-        }),
+        Typed::Sample { ids, value } => {
+            let input = input_in(&ids.tree);
+            Ok(Side {
+                value: sampled_value(alloc, mean, ids, value)?,
+                sample: Some(input),
+            })
+        }
         Typed::Table { .. } => Err(KindEnd::Meaning(MeaningKind::KindMismatch)),
         Typed::Series { .. } => Err(KindEnd::Meaning(MeaningKind::KindMismatch)),
         Typed::Stack { .. } => Err(KindEnd::Meaning(MeaningKind::KindMismatch)),
@@ -124,7 +161,7 @@ fn is_call(tree: &Tree) -> bool
     matches!(tree, Tree::Call { .. } | Tree::CallWith { .. })
 }
 
-// A right side without an operation has one, a copy; a drain map has none, and neither has a time series of its own.
+// A right side without an operation has one, a copy; a drain map has none, and neither has what a time series samples.
 fn with_operation(
     alloc: Global,
     is_sampled: bool,
@@ -277,6 +314,6 @@ pub fn line_at(
     let typed = typed_as(alloc, scope, &statement.expr, true, UsedAs::Grid)?;
     let name = statement.name.bytes();
     let asked = asked_kind(scope.above.get(name), bound_kind(scope.binding(name)));
-    let side = right_side(asked, typed)?;
+    let side = right_side(alloc, scope.mean, asked, typed)?;
     line_of_side(alloc, scope, above, statement, side)
 }

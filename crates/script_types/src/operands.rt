@@ -3,7 +3,7 @@ ghost use Rattle.std.specs.Vec.Iter.{into_iter_items};
 ghost use Rattle.map_meaning.specs.Table.{allows, given_kind, is_file};
 ghost use Rattle.cell_values.specs.declared.kind.Kind.TheVariants.{Nominal};
 ghost use Rattle.cell_values.specs.inside.Reading.{cell_read};
-ghost use Rattle.script_types.specs.Typing.{agreed_kind, length_among, whole_number, argument_at, argument_kind, arguments_at, call_tree, deciding, bound_file_at, file_of, free_at, input_in, kind_of_free, typed_map, maps_of, meant_value, nested_on, number_map, operation_tree, row_value, sample_of};
+ghost use Rattle.script_types.specs.Typing.{agreed_kind, length_among, whole_number, argument_at, argument_kind, arguments_at, call_tree, deciding, bound_file_at, file_of, free_at, kind_of_free, typed_map, maps_of, meant_value, nested_on, number_map, operation_tree, row_value, sample_of};
 ghost use Rattle.script_types.specs.inside.Samples.{map_in};
 ghost use Rattle.script_types.specs.inside.Scopes.{GivesKind, GivesList};
 
@@ -308,16 +308,6 @@ fn operation_tree(
     call_tree(alloc, row, kind, maps)
 }
 
-// The number of the input that the map is.
-fn input_in(tree: &Tree) -> u32
-    ensures { result ≡ input_in tree.now }
-{
-    match tree {
-        Tree::Input { input, .. } => *input,
-        _ => 0,
-    }
-}
-
 // The map that an operand is, if it is one.
 fn map_in(argument: Option<Argument>) -> Option<Value>
     ensures { result ≡ map_in argument }
@@ -343,10 +333,7 @@ fn sample_of(arguments: Vec<Argument>) -> Result<Typed, KindEnd>
     };
     match arguments.next() {
         Some(_) => Err(KindEnd::Meaning(MeaningKind::KindMismatch)),
-        None => Ok(Typed::Sample {
-            ids: input_in(&ids.tree),
-            value,
-        }),
+        None => Ok(Typed::Sample { ids, value }),
     }
 }
 

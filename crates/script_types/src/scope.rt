@@ -22,6 +22,8 @@ pub struct Scope<'a> {
     pub section: Section,
     /// The last step.
     pub steps: u32,
+    /// Whether time series are sampled by the mean.
+    pub mean: bool,
     pub bindings: &'a Items<Binding>,
     /// The place of each binding.
     pub places: Names<u32>,

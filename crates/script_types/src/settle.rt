@@ -45,6 +45,7 @@ pub fn unsettled<'a>(alloc: Global, script: &'a Script) -> Settled<'a>
     let scope = Scope {
         section: Section::Initial,
         steps: script.steps,
+        mean: script.mean,
         bindings: &script.bindings,
         places: Names::new(alloc),
         targets: Names::new(alloc),

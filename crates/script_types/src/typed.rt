@@ -43,8 +43,8 @@ pub enum Typed {
     Series { kind: Kind, input: u32 },
     /// The name of a stack of this kind, which is the input with this number.
     Stack { kind: Kind, input: u32 },
-    /// A time series that is written: the number of the input that is the map of ids, and the map that is sampled.
-    Sample { ids: u32, value: Value },
+    /// A time series that is written: the map of its ids, which is an input, and the map that is sampled.
+    Sample { ids: Value, value: Value },
 }
 
 /// An operand at its place.

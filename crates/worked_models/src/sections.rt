@@ -19,6 +19,9 @@ const ENTRIES: &str =
     G = evaporat; V = evaporate; E = in.flow; I = evaporate : nominal; O = out.tss; RR = r.tss; NN = n.asc; \
     F5 = p0000000.005; F0 = p0000000.000; FP = p00000000005; FS = p000000.0005; FL = p0000100.000; Wet9 = rain0000.009;";
 
+/// The first line that asks for means.
+const MEAN: &str = "#! timeoutput mean\n";
+
 /// The sections of scripts with four steps.
 static SECTIONS: [(&str, Told); 139] = [
     // time stands in `dynamic` alone
@@ -262,6 +265,37 @@ static SECTIONS: [(&str, Told); 139] = [
     ("dynamic report Y = N; report Y = A;", At(2, KindMismatch)),
     ("dynamic report I = A;", At(1, KindMismatch)),
     ("dynamic report V = A + Q;", At(1, UnknownName)),
+];
+
+/// The first lines of scripts with four steps, and their sections.
+static FIRST_LINES: [(&str, &str, Told); 14] = [
+    // a time series by the mean has one operation more, and one of scalars alone
+    (MEAN, "dynamic X = timeoutput(N, A);", Timed(0, 1)),
+    (MEAN, "dynamic X = timeoutput(N, A + 1);", Timed(0, 2)),
+    (MEAN, "dynamic X = timeoutput(B, 5.5);", Timed(0, 1)),
+    (MEAN, "dynamic X = timeoutput(Z, F);", Timed(0, 1)),
+    (MEAN, "dynamic X = timeoutput(N, K);", Timed(0, 1)),
+    (MEAN, "dynamic X = timeoutput(N, time());", Timed(0, 1)),
+    (MEAN, "dynamic X = timeoutput(N, N);", At(1, KindMismatch)),
+    (MEAN, "dynamic X = timeoutput(N, D);", At(1, KindMismatch)),
+    (MEAN, "dynamic X = timeoutput(N, M);", At(1, KindMismatch)),
+    (
+        MEAN,
+        "dynamic X = timeoutput(N, A > 1);",
+        At(1, KindMismatch),
+    ),
+    (MEAN, "dynamic X = timeoutput(A, A);", At(1, KindMismatch)),
+    (MEAN, "dynamic X = timeoutput(5, N);", At(1, WrongSection)),
+    (
+        MEAN,
+        "initial X = timeoutput(N, A); dynamic Y = 1;",
+        At(1, WrongSection),
+    ),
+    (
+        "#! timeoutput means\n",
+        "dynamic X = timeoutput(N, N);",
+        Timed(0, 0),
+    ),
 ];
 
 /// The last step of a script, and its sections.
@@ -546,6 +580,18 @@ fn first_faults_of_sections(rt: HostRuntime) -> Result<(), Fail> {
 }
 
 #[test]
+fn first_faults_by_the_first_line(rt: HostRuntime) -> Result<(), Fail> {
+    let alloc = rt.alloc();
+    for (first, sections, expected) in FIRST_LINES.iter() {
+        let text = format!(in alloc;
+            "{first}binding {ENTRIES} areamap A; timer 1 4 1; {sections}"
+        )?;
+        expect_told(&rt, alloc, &text, *expected, sections)?;
+    }
+    Ok(())
+}
+
+#[test]
 fn first_faults_by_the_last_step(rt: HostRuntime) -> Result<(), Fail> {
     expect_steps(&rt, rt.alloc(), &STEPS)
 }
@@ -560,6 +606,8 @@ fn most_operations_of_each_section(rt: HostRuntime) -> Result<(), Fail> {
     expect_timed(&rt, alloc, "4", &text, Timed(8192, 8192), "most operations")?;
     text.push_str("X = timeoutput(N, Q);")?;
     expect_timed(&rt, alloc, "4", &text, Timed(8192, 8192), "a series too")?;
+    let first = format!(in alloc; "{MEAN}binding {ENTRIES} areamap A; timer 1 4 1; {text}")?;
+    expect_told(&rt, alloc, &first, At(257, TooMany), "a series by the mean")?;
     text.push_str("Q = time();")?;
     expect_timed(&rt, alloc, "4", &text, At(258, TooMany), "one more")
 }

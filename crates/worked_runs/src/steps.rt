@@ -204,6 +204,87 @@ static SAMPLES: [Case; 6] = [
     ),
 ];
 
+/// Samples by the mean, which the first line asks for, and by the first cell, where it asks for something else.
+static MEANS: [Case; 6] = [
+    // of an id's cells the mean, also by a line end of two bytes
+    (
+        "#! timeoutput mean\nbinding Id = id.asc : nominal; A = a.asc; areamap Id; timer 1 2 1; dynamic report T = timeoutput(Id, A);",
+        &[("id.asc", "2 1 2"), ("a.asc", "10 20 31")],
+        0,
+        "done files=1 steps=2\n",
+        &[(
+            "T",
+            "timeseries scalar\n3\ntimestep\n1\n2\n1 20 20.5\n2 20 20.5\n",
+        )],
+    ),
+    (
+        "#! timeoutput mean\r\nbinding Id = id.asc : nominal; A = a.asc; areamap Id; timer 1 1 1; dynamic report T = timeoutput(Id, A);",
+        &[("id.asc", "2 1 2"), ("a.asc", "-9999 20 31")],
+        0,
+        "done files=1 steps=1\n",
+        &[("T", "timeseries scalar\n3\ntimestep\n1\n2\n1 20 31\n")],
+    ),
+    // another word is a comment
+    (
+        "#! timeoutput median\nbinding Id = id.asc : nominal; A = a.asc; areamap Id; timer 1 1 1; dynamic report T = timeoutput(Id, A);",
+        &[("id.asc", "2 1 2"), ("a.asc", "10 20 30")],
+        0,
+        "done files=1 steps=1\n",
+        &[("T", "timeseries scalar\n3\ntimestep\n1\n2\n1 20 10\n")],
+    ),
+    // rounding to the nearest, ties away from zero; ids without values; a number, the time, and a formula of one operation
+    (
+        "#! timeoutput mean\nbinding Id = id.asc : ordinal; A = a.asc; areamap Id; timer 1 1 1; \
+            dynamic report T = timeoutput(Id, A); report K = timeoutput(Id, 2.5); report S = timeoutput(Id, time()); \
+            report B = timeoutput(Id, A * 1000000);",
+        &[
+            ("id.asc", "1 1 2 2 3 3 3 4 -1 0 -9999"),
+            (
+                "a.asc",
+                "0.000001 0.000002 -0.000001 -0.000002 0 0 0.000001 -9999 5 6 7",
+            ),
+        ],
+        0,
+        "done files=4 steps=1\n",
+        &[
+            (
+                "T",
+                "timeseries scalar\n5\ntimestep\n1\n2\n3\n4\n1 0.000002 -0.000002 0 1e31\n",
+            ),
+            (
+                "K",
+                "timeseries scalar\n5\ntimestep\n1\n2\n3\n4\n1 2.5 2.5 2.5 2.5\n",
+            ),
+            (
+                "S",
+                "timeseries scalar\n5\ntimestep\n1\n2\n3\n4\n1 1 1 1 1\n",
+            ),
+            (
+                "B",
+                "timeseries scalar\n5\ntimestep\n1\n2\n3\n4\n1 1.5 -1.5 0.333333 1e31\n",
+            ),
+        ],
+    ),
+    // a mean is one of scalars
+    (
+        "#! timeoutput mean\nbinding Id = id.asc : nominal; areamap Id; timer 1 1 1; dynamic report T = timeoutput(Id, Id);",
+        &[("id.asc", "1")],
+        3,
+        "script statement 1 kind-mismatch\n",
+        &[],
+    ),
+    // an operation of the operand is out of range
+    (
+        "#! timeoutput mean\nbinding Id = id.asc : nominal; areamap Id; timer 1 1 1; \
+            dynamic report T = timeoutput(Id, 9000000000000 * 2);",
+        &[("id.asc", "1 1")],
+        5,
+        "overflow step 1 statement 1 operation 1 row \
+            1 col 1\n",
+        &[("T", "timeseries scalar\n2\ntimestep\n1\n")],
+    ),
+];
+
 /// Series, and what names have from the step before.
 static SERIES: [Case; 5] = [
     // two maps of ids; series are put in the order of their statements, behind the last step
@@ -529,6 +610,11 @@ fn reads_stacks_at_their_steps(rt: HostRuntime) -> Result<(), Fail> {
 #[test]
 fn looks_up_and_samples(rt: HostRuntime) -> Result<(), Fail> {
     expect_cases(&rt, rt.alloc(), PUT, &SAMPLES)
+}
+
+#[test]
+fn samples_means(rt: HostRuntime) -> Result<(), Fail> {
+    expect_cases(&rt, rt.alloc(), PUT, &MEANS)
 }
 
 #[test]

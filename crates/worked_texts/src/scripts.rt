@@ -9,9 +9,9 @@ use std::process::Abort;
 use std::test::Fail;
 
 /// A text, and its tree: `NAME=FILE`, `NAME=#NUMBER` and `:KIND` for each entry, the area and the last step in angle
-/// brackets, and each statement, `!` before a reported one and `dynamic` before the section; an operation stands
+/// brackets, and `mean` where samples are means; and each statement, `!` before a reported one and `dynamic` before the section; an operation stands
 /// before its operands in brackets.
-static TREES: [(&str, &str); 34] = [
+static TREES: [(&str, &str); 41] = [
     ("areamap a.asc; initial", "<a.asc 0> dynamic "),
     ("areamap 1.5; initial", "<1.5 0> dynamic "),
     ("binding areamap A; timer 1 2 1; dynamic", "<A 2> dynamic "),
@@ -23,6 +23,23 @@ static TREES: [(&str, &str); 34] = [
     (
         "# a = ;\r\n\tbinding\tA =\ta.asc\r\n;areamap#\n a ;initial\rC = A ; # end",
         "A=a.asc <a 0> C=A dynamic ",
+    ),
+    // a first line that asks for means, and some that do not
+    (
+        "#! timeoutput mean\nareamap a; initial",
+        "<a 0 mean> dynamic ",
+    ),
+    (
+        "#! timeoutput mean\r\nareamap a; initial",
+        "<a 0 mean> dynamic ",
+    ),
+    ("#! timeoutput median\nareamap a; initial", "<a 0> dynamic "),
+    (" #! timeoutput mean\nareamap a; initial", "<a 0> dynamic "),
+    ("\n#! timeoutput mean\nareamap a; initial", "<a 0> dynamic "),
+    ("#! timeoutput mean \nareamap a; initial", "<a 0> dynamic "),
+    (
+        "#! timeoutput mean\r \nareamap a; initial",
+        "<a 0> dynamic ",
     ),
     // entries with decimals of either sign, kinds, and files that are spelled like numbers and key words
     (
@@ -152,13 +169,14 @@ static TREES: [(&str, &str); 34] = [
 ];
 
 /// A text, and its first fault.
-static FAULTS: [(&str, &str); 66] = [
+static FAULTS: [(&str, &str); 67] = [
     // worked examples
     ("areamap a.asc; initial report C = A + ;", "1:39 token"),
     ("", "1:1 end"),
     ("@", "1:1 byte"),
     (" @", "1:2 byte"),
     ("  # nothing", "1:1 end"),
+    ("#! timeoutput mean", "1:1 end"),
     // a script that is not whole
     ("areamap a; initial A=1; dynamic", "1:25 token"),
     ("areamap a;", "1:11 end"),
@@ -356,7 +374,8 @@ fn shown(alloc: Global, script: &Script) -> Result<Vec<u8>, AllocError> {
     text.extend_from_slice(b"<")?;
     add(&mut text, &script.area, b" ")?;
     let steps = script.steps;
-    let steps = format!(in alloc; "{steps}> ")?;
+    let mean = if script.mean { " mean" } else { "" };
+    let steps = format!(in alloc; "{steps}{mean}> ")?;
     text.extend_from_slice(steps.as_bytes())?;
     add_statements(&mut text, script.initial.as_slice())?;
     text.extend_from_slice(b"dynamic ")?;

@@ -28,10 +28,10 @@ const MAPS: [(&str, &str); 6] = [
     ),
 ];
 
-/// A folder with the maps and a script of these statements.
-pub(crate) fn folder_of(alloc: Global, statements: &str) -> Result<MemFolder, Fail> {
+/// A folder with the maps and a script of this first line and these statements.
+pub(crate) fn folder_of(alloc: Global, first: &str, statements: &str) -> Result<MemFolder, Fail> {
     let mut folder = MemFolder::new(alloc);
-    let script = format!(in alloc; "{HEAD}{statements}")?;
+    let script = format!(in alloc; "{first}{HEAD}{statements}")?;
     folder.hold(alloc, b"m.mod", script.as_bytes())?;
     for (name, rows) in MAPS {
         let text = format!(in alloc;

@@ -42,10 +42,10 @@ static LATE: [Case; 1] = [(
 
 #[test]
 fn the_first_result_out_of_range_is_told(rt: HostRuntime) -> Result<(), Fail> {
-    expect_cases(&rt, rt.alloc(), &OVERS)
+    expect_cases(&rt, rt.alloc(), "", &OVERS)
 }
 
 #[test]
 fn the_first_step_out_of_range_is_told(rt: HostRuntime) -> Result<(), Fail> {
-    expect_cases(&rt, rt.alloc(), &LATE)
+    expect_cases(&rt, rt.alloc(), "", &LATE)
 }

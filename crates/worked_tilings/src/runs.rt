@@ -61,12 +61,12 @@ fn expect_same_puts(rt: &impl Abort, tiled: &MemFolder, whole: &MemFolder, case:
 }
 
 // By tiles of each size the script comes out as it is to, with the files that it puts over whole maps.
-fn expect_case(rt: &impl Abort, alloc: Global, case: &Case) -> Result<(), Fail> {
+fn expect_case(rt: &impl Abort, alloc: Global, first: &str, case: &Case) -> Result<(), Fail> {
     let (statements, expected) = *case;
-    let mut maps = folder_of(alloc, statements)?;
+    let mut maps = folder_of(alloc, first, statements)?;
     assert_eq!(rt; whole(alloc, &mut maps), expected, "{statements}");
     for sides in SIDES {
-        let mut tiles = folder_of(alloc, statements)?;
+        let mut tiles = folder_of(alloc, first, statements)?;
         assert_eq!(rt;
             tiled(alloc, sides, &mut tiles),
             expected,
@@ -77,10 +77,15 @@ fn expect_case(rt: &impl Abort, alloc: Global, case: &Case) -> Result<(), Fail> 
     Ok(())
 }
 
-/// So do all these scripts.
-pub(crate) fn expect_cases(rt: &impl Abort, alloc: Global, cases: &[Case]) -> Result<(), Fail> {
+/// So do all these scripts, behind this first line.
+pub(crate) fn expect_cases(
+    rt: &impl Abort,
+    alloc: Global,
+    first: &str,
+    cases: &[Case],
+) -> Result<(), Fail> {
     for case in cases {
-        expect_case(rt, alloc, case)?;
+        expect_case(rt, alloc, first, case)?;
     }
     Ok(())
 }

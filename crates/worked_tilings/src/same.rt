@@ -89,12 +89,24 @@ static STEPS: [Case; 4] = [
     ),
 ];
 
+/// Samples by the mean over ids in many tiles, of what the span makes, of its number and of a value of the step before.
+static MEANS: [Case; 1] = [(
+    "timer 1 2 1; initial S = A; dynamic report R = timeoutput(Z, S); S = S + windowtotal(A, 3); \
+        report Q = timeoutput(Y, S); report T = timeoutput(Y, time());",
+    Done(3, 2),
+)];
+
+#[test]
+fn tiles_give_the_means_of_whole_maps(rt: HostRuntime) -> Result<(), Fail> {
+    expect_cases(&rt, rt.alloc(), "#! timeoutput mean\n", &MEANS)
+}
+
 #[test]
 fn tiles_give_the_files_of_whole_maps(rt: HostRuntime) -> Result<(), Fail> {
-    expect_cases(&rt, rt.alloc(), &INITIAL)
+    expect_cases(&rt, rt.alloc(), "", &INITIAL)
 }
 
 #[test]
 fn tiles_give_the_files_of_whole_maps_over_steps(rt: HostRuntime) -> Result<(), Fail> {
-    expect_cases(&rt, rt.alloc(), &STEPS)
+    expect_cases(&rt, rt.alloc(), "", &STEPS)
 }

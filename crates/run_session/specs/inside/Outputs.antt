@@ -4,6 +4,8 @@ use Rattle.std.specs.List.{AllZip, filter}
 use Rattle.map_meaning.specs.declared.program.InputUse.{InputUse}
 use Rattle.map_meaning.specs.declared.program.Operand.{Operand}
 use Rattle.map_meaning.specs.declared.program.Operand.TheVariants.{Input}
+use Rattle.map_meaning.specs.declared.program.OutputKind.{OutputKind}
+use Rattle.map_meaning.specs.declared.program.OutputKind.TheVariants.{Sample as IsSampleKind}
 use Rattle.map_meaning.specs.declared.program.OutputUse.{OutputUse}
 use Rattle.map_meaning.specs.Programs.{is_grid_role}
 use Rattle.map_meaning.specs.Maps.{WholeMap, nth}
@@ -33,6 +35,16 @@ pub record IsKeptFor (uses : List InputUse) (output : OutputUse) (s : Sample) : 
 abbrev pub AreSamplesOf : List InputUse → List OutputUse → List Sample → Type 0
 AreSamplesOf uses outputs samples = AllZip (IsKeptFor uses) (filter (λ output. is_sample_form output.kind) outputs) samples
 
+-- the map of the ids of an output that is a time series
+abbrev pub ids_of : List WholeMap → OutputKind → WholeMap
+ids_of maps (IsSampleKind ids) = nth maps ids
+ids_of maps _ = []
+
+-- the ids of the time series are those of these outputs that are such
+abbrev pub HaveIds : List WholeMap → List OutputUse → List Sample → Type 0
+HaveIds maps outputs samples =
+    map (λ s. s.ids) samples ≡ map (λ output. ids_of maps output.kind) (filter (λ output. is_sample_form output.kind) outputs)
+
 -- an output that is a time series with these ids can be kept: the ids are a grid of so many cells
 pub record SampleFits (places : ℕ) (uses : List InputUse) (maps : List WholeMap) (output : OutputUse) (ids : ℕ) : Type 0 where
   pub grid : IsSomeAnd (slice_get uses ids) (λ input. is_grid_role input.role ≡ true)
@@ -44,4 +56,5 @@ pub record AreBegun (places : ℕ) (uses : List InputUse) (maps : List WholeMap)
     Type 0 where
   pub seen : map sampled_of samples ≡ all_begun (at_inputs is_grid_role [] uses maps) (map as_shown outputs)
   pub kept : AreSamplesOf uses outputs samples
+  pub ids_are : HaveIds (at_inputs is_grid_role [] uses maps) outputs samples
   pub each : All (IsSample places) samples

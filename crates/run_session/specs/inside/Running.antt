@@ -23,9 +23,10 @@ use Rattle.run_session.specs.declared.stages.StageMaps.{StageMaps}
 use Rattle.run_session.specs.declared.work.Work.{Work}
 use Rattle.run_session.specs.Asked.{AreRunsOf, HasDone, IsRunOf, all_spans}
 use Rattle.run_session.specs.Ends.{ScriptEnd, why}
+use Rattle.run_session.specs.Evaluation.{input_maps}
 use Rattle.run_session.specs.Samples.{Sampled}
 use Rattle.run_session.specs.Steps.{Standing, StepsEnd, stacks_among}
-use Rattle.run_session.specs.inside.Outputs.{AreSamplesOf}
+use Rattle.run_session.specs.inside.Outputs.{AreSamplesOf, HaveIds}
 use Rattle.run_session.specs.inside.Parts.{AreDrainsOf, AreInputsOf, stop_outcome}
 use Rattle.run_session.specs.inside.Standings.{IsSample, codes_of, sampled_of}
 
@@ -74,6 +75,7 @@ pub record IsStanding (program : Program) (inputs : Inputs) (n : ℕ) (s : Stand
   pub samples_are : s.samples ≡ map sampled_of samples
   pub each : All (IsSample (inputs.frame.rows * inputs.frame.cols)) samples
   pub kept_for : AreSamplesOf program.inputs program.outputs samples
+  pub ids_are : HaveIds (input_maps program.inputs inputs) program.outputs samples
 
 -- something stands after so many steps
 abbrev pub HasStanding : Program → Inputs → ℕ → StageMaps → List StepMap → List Sample → Type 0

@@ -1,8 +1,9 @@
 -- What a session keeps between stages and steps, and what it stands for.
 use Rattle.std.specs.Prelude.{◌≡◌, ◌==◌, ◌+◌, ◌<◌, ◌≤◌, ℕ, pos, List, [], ◌∷◌, ◌++◌, All, length, map}
-use Rattle.std.specs.Prelude.{None, Some, Result, Ok, Err, if◌then◌else◌, ⊤}
+use Rattle.std.specs.Prelude.{false, None, Some, Result, Ok, Err, if◌then◌else◌, ⊤}
 use Rattle.std.specs.declared.option.Option.{Option}
-use Rattle.std.specs.List.{AllZip}
+use Rattle.std.specs.List.{AllZip, filter}
+use Rattle.text_base.specs.Results.{◌>>=◌}
 use Rattle.cell_values.specs.declared.cell.Cell.{Cell}
 use Rattle.cell_values.specs.declared.cell.Cell.TheVariants.{Mv}
 use Rattle.tile_map.specs.Cuts.{cell_at}
@@ -17,25 +18,33 @@ use Rattle.map_meaning.specs.declared.program.Operand.TheVariants.{Unused, Liter
 use Rattle.map_meaning.specs.declared.program.Operand.TheVariants as from
 use Rattle.map_meaning.specs.declared.program.OutputUse.{OutputUse}
 use Rattle.map_meaning.specs.declared.program.Program.{Program}
+use Rattle.map_meaning.specs.Evaluation.{Done}
 use Rattle.map_meaning.specs.Maps.{IsMapOf, WholeMap, nth, step_cell}
-use Rattle.map_meaning.specs.Programs.{is_grid_role}
-use Rattle.map_meaning.specs.Spans.{at_inputs, kept_map}
+use Rattle.map_meaning.specs.Scenes.{Scene}
+use Rattle.map_meaning.specs.Spans.{kept_map}
 use Rattle.script_types.specs.Lowered.{as_shown}
-use Rattle.script_types.specs.Values.{Written, program_reports}
+use Rattle.script_types.specs.Values.{Written, done_steps, is_output_of, section_at, written}
 use Rattle.run_session.specs.declared.inputs.Inputs.{Inputs}
 use Rattle.run_session.specs.declared.samples.Sample.{Sample}
 use Rattle.run_session.specs.declared.stacks.StackUse.{StackUse}
 use Rattle.run_session.specs.declared.stages.StageMaps.{StageMaps}
 use Rattle.run_session.specs.Ends.{ScriptEnd}
-use Rattle.run_session.specs.Evaluation.{scenes_over}
-use Rattle.run_session.specs.Samples.{Sampled, all_begun, id_columns, place_of_id}
+use Rattle.run_session.specs.Evaluation.{input_maps, scenes_over}
+use Rattle.run_session.specs.Samples.{Sampled, all_begun, as_put, id_columns, place_of_id}
 use Rattle.run_session.specs.Steps.{Plan, or_overflow, stacks_among}
 
 -- ---- what is run
 
+-- what an output writes at a step, where these operations are done: a time series the cells at the first places with its ids
+abbrev pub put_by : List WholeMap → Scene → Done → OutputUse → Written
+put_by maps scene done output = as_put false maps (written scene done output)
+
 -- what the outputs of a program write at each step, by its operations
 abbrev pub outputs_over : Program → Inputs → List (List StepMap) → ℕ → Result (List Written) OverAt
-outputs_over program inputs grids n = program_reports program (scenes_over program.inputs inputs grids) n
+outputs_over program inputs grids n =
+    let scenes = scenes_over program.inputs inputs grids in
+    done_steps program scenes n >>= λ done.
+    Ok (map (put_by (input_maps program.inputs inputs) (scenes n) done) (filter (is_output_of (section_at n)) program.outputs))
 
 -- what is run of a program, by its operations
 abbrev pub program_plan : Program → Inputs → Plan
@@ -43,7 +52,7 @@ program_plan program inputs = record {
   frame = inputs.frame;
   steps = program.steps;
   stacks = stacks_among 0 program.inputs;
-  samples = all_begun (at_inputs is_grid_role [] program.inputs inputs.maps) (map as_shown program.outputs);
+  samples = all_begun (input_maps program.inputs inputs) (map as_shown program.outputs);
   reports = outputs_over program inputs;
 }
 

@@ -1,5 +1,5 @@
 -- What a text gives, as a function: its tokens are taken one by one. `one_tree` is the law that ties it to the grammar.
-use Rattle.std.specs.Prelude.{ℕ, List, [], ◌∷◌, Option, Some, None, Result, Ok, Err}
+use Rattle.std.specs.Prelude.{ℕ, Bool, List, [], ◌∷◌, Option, Some, None, Result, Ok, Err}
 use Rattle.script_syntax.specs.declared.fault.SyntaxKind.{SyntaxKind}
 use Rattle.script_syntax.specs.declared.fault.SyntaxKind.TheVariants as kinds
 use Rattle.script_syntax.specs.declared.fault.SyntaxFault.{SyntaxFault}
@@ -9,6 +9,7 @@ use Rattle.script_syntax.specs.declared.place.Mode.TheVariants.{Bindings}
 use Rattle.script_syntax.specs.declared.place.Place.{Place}
 use Rattle.script_syntax.specs.declared.scanner.Placed.{Placed}
 use Rattle.script_syntax.specs.declared.reading.Reading.{Reading}
+use Rattle.script_syntax.specs.Editions.{asks_mean}
 use Rattle.script_syntax.specs.Faults.{place_after_token}
 use Rattle.script_syntax.specs.Listed.{listed_by, counts_behind}
 use Rattle.script_syntax.specs.Places.{first_place}
@@ -55,6 +56,15 @@ read_from r c end (t ∷ ts) e = and_then (step_at r c t) (λ next. read_from ne
 unfoldable pub read_scanned : Reading → Counts → Place → Scanned → Result Script SyntaxFault
 read_scanned r c end s = read_from r c end s.tokens s.ending
 
+-- what the tokens of a text give
+unfoldable pub tree_by_tokens : List ℕ → Result Script SyntaxFault
+tree_by_tokens text = read_scanned new_reading (counts_behind []) first_place (scan text 0 Bindings first_place)
+
+-- the tree in this edition, or the fault
+abbrev pub in_edition : Bool → Result Script SyntaxFault → Result Script SyntaxFault
+in_edition mean (Ok tree) = Ok (record tree { mean = mean })
+in_edition mean (Err fault) = Err fault
+
 -- what a text gives: its tree, or its first fault
 unfoldable pub tree_of : List ℕ → Result Script SyntaxFault
-tree_of text = read_scanned new_reading (counts_behind []) first_place (scan text 0 Bindings first_place)
+tree_of text = in_edition (asks_mean text) (tree_by_tokens text)

@@ -25,7 +25,10 @@ use Rattle.script_syntax.specs.inside.Formulas.{formula_step, whole}
 
 -- a script of which nothing was read
 abbrev pub new_reading : Reading
-new_reading = record { script = record { bindings = []; area = codes ""; steps = 0; initial = []; dynamic = [] }; phase = phases.Start }
+new_reading = record {
+  script = record { bindings = []; area = codes ""; steps = 0; initial = []; dynamic = []; mean = false };
+  phase = phases.Start;
+}
 
 -- the reading with this phase
 abbrev pub now : Script → Phase → Option Reading

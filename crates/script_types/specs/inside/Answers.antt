@@ -89,6 +89,7 @@ CountsUpTo most (Some n) number = (n ≡ number) × (n ≤ most)
 -- the tables say what names are below these statements
 pub record StandsBelow (script : Script) (scope : Scope) (lines : List Line) : Type 0 where
   pub steps : scope.steps ≡ script.steps
+  pub mean : scope.mean ≡ script.mean
   pub bindings : scope.bindings.now ≡ script.bindings
   pub places : (name : List ℕ) → look scope.places.values name ≡ place_from 0 script.bindings name
   pub targets : (name : List ℕ) → is_some (look scope.targets.values name) ≡ is_assigned script name
@@ -169,6 +170,7 @@ GivesReports (Err lower.Memory) value = ⊤
 -- nothing of the script is settled
 pub record IsUnsettled (script : Script) (scope : Scope) (lines : List Line) : Type 0 where
   pub steps : scope.steps ≡ script.steps
+  pub mean : scope.mean ≡ script.mean
   pub bindings : scope.bindings.now ≡ script.bindings
   pub above : (name : List ℕ) → look scope.above.values name ≡ None
   pub written : scope.stacks_written ≡ 0

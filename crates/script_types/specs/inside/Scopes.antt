@@ -21,6 +21,7 @@ abbrev pub scope_of : Scope → typing.Scope
 scope_of s = record {
   section = s.section;
   steps = s.steps;
+  mean = s.mean;
   binding = binding_in s;
   is_assigned = λ name. is_some (look s.targets.values name);
   is_sampled = λ name. is_some (look s.samples.values name);

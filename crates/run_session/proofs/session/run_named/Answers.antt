@@ -49,7 +49,7 @@ returns-clause-meets g c many counts =
     let Q : Program → Inputs → Type 0 = λ p i. P (start_run (admits p i.frame.rows i.frame.cols) (program_plan p i)) in
     let meets = subst (λ i. Q ready.program.value i) c.in_ok-work.ensures.inputs (subst (λ p. Q p work.inputs) c.in_ok-work.ensures.program c.run_start.ensures.meets) in
     meets_on why (load_run name) (loaded_run many) _ _ _ l _ made.2
-    (subst P (start_same l ready.program.value is.program ready.inputs is.inputs admits many counts) meets)
+    (subst P (start_same l ready.program.value is.program ready.inputs is.maps is.inputs admits many counts) meets)
 
 pub returns-in_err-ready-clause-many : goal.returns-in_err-ready-clause-many
 returns-in_err-ready-clause-many g c many counts = many_out (IsCountOf many) c.from_residual.result _ c.from_residual.ensures.1 tt
@@ -83,7 +83,7 @@ returns-clause-asked g c none =
     let Q : Program → Inputs → Type 0 = λ p i. IfOk c.run_start.result (λ tally. HasRun (asked c.args.runner.now) (asked c.run_start.new.runner) p i (state c.load.new.folder) (state c.run_start.new.folder)) in
     let run = subst (λ i. Q ready.program.value i) c.in_ok-work.ensures.inputs (subst (λ p. Q p work.inputs) c.in_ok-work.ensures.program c.run_start.ensures.run) in
     IfOk-weaker c.run_start.result (λ tally. HasRun (asked c.args.runner.now) (asked c.run_start.new.runner) ready.program.value ready.inputs (state c.load.new.folder) (state c.run_start.new.folder)) (λ tally. WasAsked (asked c.run_start.new.runner) name (state c.args.folder.now).holds)
-    (λ tally run. was_asked l ready.program.value is.program ready.inputs is.inputs (asked c.args.runner.now) (asked c.run_start.new.runner) name (state c.args.folder.now) (state c.load.new.folder) (state c.run_start.new.folder) made.2 none run)
+    (λ tally run. was_asked l ready.program.value is.program ready.inputs is.maps is.inputs (asked c.args.runner.now) (asked c.run_start.new.runner) name (state c.args.folder.now) (state c.load.new.folder) (state c.run_start.new.folder) made.2 none run)
     run
 
 pub prepared-requires-clause-inputs : goal.prepared-requires-clause-inputs

@@ -4,8 +4,8 @@ use Rattle.script_syntax.proofs.reader.read_script.Goals as goal
 
 pub returns : goal.returns
 returns c =
-    let r = c.read_text.result in
-    let h = c.read_text.ensures in
+    let r = c.read_whole.result in
+    let h = c.read_whole.ensures in
     record {
       found = found_in c.args.text.now r h;
       only = λ tree s. only_in c.args.text.now r h (Ok tree) s;

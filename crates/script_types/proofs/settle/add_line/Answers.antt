@@ -37,6 +37,7 @@ returns-in_ok-push-in-Ok c =
       refl,
       record {
         steps = b.steps;
+        mean = b.mean;
         bindings = b.bindings;
         places = b.places;
         targets = b.targets;

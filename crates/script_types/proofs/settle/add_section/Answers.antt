@@ -13,6 +13,7 @@ loop-statement-init c =
     record {
       below = record {
         steps = b.steps;
+        mean = b.mean;
         bindings = b.bindings;
         places = b.places;
         targets = b.targets;

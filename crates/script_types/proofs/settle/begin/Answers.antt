@@ -15,6 +15,7 @@ returns-clause-begins c =
       h.0,
       record {
         steps = none.steps;
+        mean = none.mean;
         bindings = none.bindings;
         places = h.1;
         targets = c.in_ok-targets.ensures;
