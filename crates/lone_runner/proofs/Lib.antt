@@ -1,2 +1,2 @@
-mod FlowLemmas
+mod SpanLemmas
 mod PlanLemmas

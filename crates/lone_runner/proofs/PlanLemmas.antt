@@ -10,7 +10,7 @@ use Rattle.plan_graph.specs.PlanGraphs.{IsPlanOf, PlanGraphValue}
 use Rattle.task_graph.specs.Plans.{PlanValue, span_plan}
 use Rattle.task_tiles.specs.TaskTiles.{IsPlanned}
 use Rattle.tile_map.specs.declared.tiling.Tiling.{Tiling}
-use Rattle.lone_runner.proofs.FlowLemmas.{plan_tiling}
+use Rattle.lone_runner.proofs.SpanLemmas.{plan_tiling}
 
 -- the plan is that of its span
 pub is_planned : (p : PlanGraphValue) (s : Span) (program : Program) (known : Known) (g : Tiling) →

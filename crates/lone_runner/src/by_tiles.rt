@@ -1,6 +1,6 @@
 //! A span by tiles.
 
-ghost use Rattle.std.specs.Prelude.{◌≡◌, ◌≤◌, [], IfOk};
+ghost use Rattle.std.specs.Prelude.{◌≡◌, ◌≤◌, IfOk};
 ghost use Rattle.tile_map.specs.Tiles.{tile_count};
 ghost use Rattle.flow_task.specs.Kits.{KnowsAll};
 ghost use Rattle.map_meaning.specs.Limits.{most_block};
@@ -8,12 +8,11 @@ ghost use Rattle.map_meaning.specs.Programs.{IsWellFormed};
 ghost use Rattle.map_meaning.specs.Spans.{IsSpan, Knows, stage_of};
 ghost use Rattle.map_meaning.specs.Table.{is_transport};
 ghost use Rattle.plan_graph.specs.Borders.{HasDrainsOf};
-ghost use Rattle.plan_graph.specs.PlanGraphs.{IsLocal, IsPlanOf};
+ghost use Rattle.plan_graph.specs.PlanGraphs.{IsPlanOf};
 ghost use Rattle.task_graph.specs.Counts.{span_tasks};
 ghost use Rattle.task_graph.specs.Limits.{most_tasks};
 ghost use Rattle.task_graph.specs.Plans.{span_plan};
 
-use crate::work::TaskWork;
 use flow_task::FlowKit;
 use map_meaning::{Known, Program, Span, StageEnd};
 use plan_graph::{PlanGraph, build_graph, transports_have_their_drains};
@@ -37,11 +36,9 @@ fn planned(
     requires program { IsWellFormed program.now }
     requires span { IsSpan program.now span most_block }
     requires drains { HasDrainsOf (span_plan program.now span tiling.now) known.now.drains }
-    requires local { (span_plan program.now span tiling.now).flows ≡ [] }
     requires few { span_tasks (tile_count tiling.now) program.now span ≤ most_tasks }
     ensures span { IfOk result (λ graph. graph.span ≡ span) }
     ensures of { IfOk result (IsPlanOf program.now known.now tiling.now) }
-    ensures local { IfOk result IsLocal }
 {
     match build_graph(alloc, program, span, tiling, known) {
         Ok(graph) => Ok(graph),
@@ -65,7 +62,6 @@ pub fn by_tiles<K: FlowKit>(
     requires rows { tiling.now.rows ≡ known.now.value.rows }
     requires cols { tiling.now.cols ≡ known.now.value.cols }
     requires kit { KnowsAll is_transport (K.known kit) }
-    requires local { (span_plan program.now.value span tiling.now).flows ≡ [] }
     requires few { span_tasks (tile_count tiling.now) program.now.value span ≤ most_tasks }
     ensures { IfOk result (λ end. end ≡ stage_of program.now.value span known.now.value) }
 {
@@ -75,6 +71,6 @@ pub fn by_tiles<K: FlowKit>(
     let program = Arc::try_clone(program)?;
     let known = Arc::try_clone(known)?;
     let mut board = Board::make(alloc, kit, plan, program, known, WORKERS)?;
-    board.drive_alone(alloc, &TaskWork)?;
+    board.drive_alone(alloc)?;
     board.collect(alloc)
 }

@@ -7,17 +7,15 @@ ghost use Rattle.map_meaning.specs.Table.{is_transport};
 ghost use Rattle.task_graph.specs.Admitted.{program_too_many};
 
 use crate::by_tiles::by_tiles;
-use crate::flows::has_flows;
 use flow_task::FlowKit;
 use map_meaning::{BlockRunner, Known, Program, Span, StageEnd};
-use plain_eval::PlainRunner;
 use std::alloc::{AllocError, Global};
 use std::sync::Arc;
 use task_graph::too_many_tasks;
 use tile_map::Tiling;
 
 /// Evaluates each span by tiles of a size, in cells, task by task on one thread and without waiting. Its spans have at most one
-/// step. A span with transports is evaluated over whole maps.
+/// step.
 #[derive(Drop)]
 pub struct LoneRunner<K: FlowKit> {
     /// How many rows a tile has.
@@ -76,9 +74,6 @@ impl<K: FlowKit> BlockRunner for LoneRunner<K> {
         span: Span,
         known: &Arc<Known>,
     ) -> Result<StageEnd, AllocError> {
-        if has_flows(program, span) {
-            return PlainRunner::new(self.kit).run(alloc, program, span, known);
-        }
         let tiling = Tiling::new(known.rows, known.cols, self.tile_rows, self.tile_cols);
         by_tiles(alloc, self.kit, program, span, known, &tiling)
     }

@@ -6,6 +6,8 @@ pub mod FoundLemmas
 pub mod HistoryLemmas
 pub mod ChannelLemmas
 pub mod TicketLemmas
+pub mod GoingLemmas
+pub mod EndLemmas
 pub mod TileLemmas
 pub mod FlowLemmas
 pub mod SendLemmas

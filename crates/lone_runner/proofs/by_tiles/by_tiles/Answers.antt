@@ -2,8 +2,7 @@ use Rattle.std.proofs.Common.{◌∙◌, ap, subst, sym}
 use Rattle.map_meaning.specs.declared.known.Known.{Known as TheKnown}
 use Rattle.map_meaning.specs.declared.program.Program.{Program as TheProgram}
 use Rattle.plan_graph.specs.Borders.{HasDrainsOf}
-use Rattle.plan_graph.specs.PlanGraphs.{IsLocal, IsPlanOf, PlanGraphValue}
-use Rattle.task_board.specs.Boards.{BoardValue}
+use Rattle.plan_graph.specs.PlanGraphs.{IsPlanOf, PlanGraphValue}
 use Rattle.task_graph.specs.Plans.{span_plan}
 use Rattle.lone_runner.proofs.PlanLemmas.{is_planned}
 use Rattle.lone_runner.proofs.by_tiles.by_tiles.Goals as goal
@@ -32,7 +31,3 @@ make-requires-clause-drains g c =
     let known : TheKnown = c.args.known.now.value in
     let of : IsPlanOf c.deref.result.now known c.args.tiling.now p = subst (λ (y : TheKnown). IsPlanOf c.deref.result.now y c.args.tiling.now p) c.deref-2.ensures c.in_ok-plan.ensures.of in
     rw (c.in_ok-plan-2.ensures.ok, c.in_ok-known.ensures) of.drains
-
-pub drive_alone-requires-clause-local : goal.drive_alone-requires-clause-local
-drive_alone-requires-clause-local g c =
-    subst IsLocal (sym (ap (λ (b : BoardValue). b.plan) c.in_ok-board.ensures ∙ c.in_ok-plan-2.ensures.ok)) c.in_ok-plan.ensures.local

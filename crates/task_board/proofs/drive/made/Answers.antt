@@ -11,25 +11,8 @@ use Rattle.task_graph.specs.declared.task.Task.{Task}
 use Rattle.task_graph.specs.Plans.{PlanValue, no_task, task_at}
 use Rattle.task_board.proofs.drive.made.Goals as goal
 
-pub compute-requires-clause-task : goal.compute-requires-clause-task
-compute-requires-clause-task g c =
-    let b : BoardValue = c.args.board.now in
-    let e : c.plan-2.result.now ≡ b.plan.plan = c.plan-2.ensures ∙ ap (λ (v : PlanGraphValue). v.plan) (c.deref.ensures ∙ c.plan.ensures.value) in
-    let l = ap (λ (v : PlanValue). length v.tasks) e in
-    let k = c.plan.ensures.keeps.plan_tasks in let h = c.requires.holds.task in omega arith
-
-pub compute-requires-clause-local : goal.compute-requires-clause-local
-compute-requires-clause-local g c =
-    let b : BoardValue = c.args.board.now in let t : ℕ = c.args.ticket.now.task in
-    let plan : c.plan-2.result.now ≡ b.plan.plan = c.plan-2.ensures ∙ ap (λ (v : PlanGraphValue). v.plan) (c.deref.ensures ∙ c.plan.ensures.value) in
-    let p = c.plan.ensures.keeps in let lt = c.requires.holds.task in
-    let inside : t < length b.plan.plan.tasks = (let k = p.plan_tasks in omega arith) in
-    ap (λ (v : PlanValue). is_flow_work (task_at v t).work) plan
-    ∙ sym (get_or-map (λ (k : Task). is_flow_work k.work) b.plan.plan.tasks t no_task mathlib.Core.Bool.false inside)
-    ∙ ap (λ (l : List Bool). get_or l t mathlib.Core.Bool.false) (sym p.plan_flows) ∙ sym (p.flow t lt) ∙ c.requires.local t lt
-
-pub compute-requires-clause-tiles : goal.compute-requires-clause-tiles
-compute-requires-clause-tiles g c =
+pub run_task-requires-clause-tiles : goal.run_task-requires-clause-tiles
+run_task-requires-clause-tiles g c =
     let b : BoardValue = c.args.board.now in let t : ℕ = c.args.ticket.now.task in
     let plan : c.plan-2.result.now ≡ b.plan.plan = c.plan-2.ensures ∙ ap (λ (v : PlanGraphValue). v.plan) (c.deref.ensures ∙ c.plan.ensures.value) in
     let span : c.span.result ≡ b.plan.span = c.span.ensures ∙ ap (λ (v : PlanGraphValue). v.span) (c.deref-2.ensures ∙ c.plan-3.ensures.value) in

@@ -1,8 +1,8 @@
-use Rattle.std.proofs.Common.{◌≡◌, ℕ, ◌-◌, ◌<◌, length, ap, sym, ◌∙◌, subst}
-use Rattle.core_model.specs.declared.step.Step.TheVariants.{Claim, Publish, PutDown}
-use Rattle.task_board.specs.Boards.{BoardValue, IsLegal, NobodyHolds, board_with_step, state_of}
-use Rattle.task_board.specs.inside.Held.{steps_at_most}
-use Rattle.task_board.proofs.DriveLemmas.{Driven, driven_step, not_finished, nearer, claim_puts, idle_put_down}
+use Rattle.std.proofs.Common.{◌≡◌, ◌∙◌, ℕ, ap, subst, sym}
+use Rattle.core_model.specs.declared.step.Step.TheVariants.{Claim, PutDown}
+use Rattle.task_board.specs.Boards.{BoardValue, IsLegal, board_with_step, state_of}
+use Rattle.task_board.specs.inside.Driven.{EndsWell, EndsBy}
+use Rattle.task_board.proofs.DriveLemmas.{claim_puts, driven_step, goes_on, idle_put_down, nearer_well, not_finished}
 use Rattle.task_board.proofs.board.Board.drive_alone.Goals as goal
 
 pub unreachable-requires : goal.unreachable-requires
@@ -17,25 +17,31 @@ work_on-requires-clause-can g c =
 
 pub tasks-preserved : goal.tasks-preserved
 tasks-preserved g c =
-    let q = c.in-Got.ensures.gives in let i = c.tasks.invariant in let t : ℕ = c.in-Got.ticket.task in
-    let e : c.work_on.new.board ≡ board_with_step (board_with_step c.tasks.self (Claim 0 t)) (Publish 0 t) =
-    c.in_ok-work_on-in-Got.ensures.ok ∙ ap (λ (k : ℕ). board_with_step c.claim.new.self (Publish k t)) q.0 ∙ ap (λ (v : BoardValue). board_with_step v (Publish 0 t)) q.1 in
-    subst (λ (v : BoardValue). Driven c.args.self.now v) (sym e) (driven_step c.args.self.now c.tasks.self t i (subst (λ (v : BoardValue). IsLegal v) q.1 c.in-Got.ensures.legal))
+    let q = c.in-Got.ensures.gives in let t : ℕ = c.in-Got.ticket.task in
+    let ends : EndsWell (board_with_step c.tasks.self (Claim 0 t)) c.work_on.new.board 0 t =
+    subst (λ (k : ℕ). EndsWell (board_with_step c.tasks.self (Claim 0 t)) c.work_on.new.board k t) q.0 (subst (λ (v : BoardValue). EndsWell v c.work_on.new.board c.in-Got.ticket.worker t) q.1 c.in_ok-work_on-in-Got.ensures.ok) in
+    driven_step c.args.self.now c.tasks.self c.work_on.new.board t ends c.tasks.invariant (subst (λ (v : BoardValue). IsLegal v) q.1 c.in-Got.ensures.legal)
 
 pub tasks-smaller : goal.tasks-smaller
 tasks-smaller g c =
-    let q = c.in-Got.ensures.gives in let i = c.tasks.invariant in let t : ℕ = c.in-Got.ticket.task in
-    let e : c.work_on.new.board ≡ board_with_step (board_with_step c.tasks.self (Claim 0 t)) (Publish 0 t) =
-    c.in_ok-work_on-in-Got.ensures.ok ∙ ap (λ (k : ℕ). board_with_step c.claim.new.self (Publish k t)) q.0 ∙ ap (λ (v : BoardValue). board_with_step v (Publish 0 t)) q.1 in
-    subst (λ (v : BoardValue). steps_at_most v.plan v.workers - length v.history < steps_at_most c.tasks.self.plan c.tasks.self.workers - length c.tasks.self.history) (sym e)
-    (nearer c.tasks.self (Claim 0 t) (Publish 0 t) i.plan (subst (λ (v : BoardValue). IsLegal v) e c.work_on.ensures.legal))
+    let q = c.in-Got.ensures.gives in let t : ℕ = c.in-Got.ticket.task in
+    let ends : EndsWell (board_with_step c.tasks.self (Claim 0 t)) c.work_on.new.board 0 t =
+    subst (λ (k : ℕ). EndsWell (board_with_step c.tasks.self (Claim 0 t)) c.work_on.new.board k t) q.0 (subst (λ (v : BoardValue). EndsWell v c.work_on.new.board c.in-Got.ticket.worker t) q.1 c.in_ok-work_on-in-Got.ensures.ok) in
+    nearer_well c.tasks.self c.work_on.new.board t ends c.tasks.invariant.plan c.work_on.ensures.legal
+
+pub returns-in_err-work_on-in-Got-clause-continues : goal.returns-in_err-work_on-in-Got-clause-continues
+returns-in_err-work_on-in-Got-clause-continues g c =
+    let q = c.in-Got.ensures.gives in let t : ℕ = c.in-Got.ticket.task in
+    let ends : EndsBy (board_with_step c.tasks.self (Claim 0 t)) c.work_on.new.board (PutDown 0 t) =
+    subst (λ (k : ℕ). EndsBy (board_with_step c.tasks.self (Claim 0 t)) c.work_on.new.board (PutDown k t)) q.0 (subst (λ (v : BoardValue). EndsBy v c.work_on.new.board (PutDown c.in-Got.ticket.worker t)) q.1 c.in_err-work_on-in-Got.ensures.err) in
+    goes_on c.tasks.self c.work_on.new.board t (PutDown 0 t) ends c.args.self.now c.tasks.invariant.continues
 
 pub returns-in_err-work_on-in-Got-clause-idle : goal.returns-in_err-work_on-in-Got-clause-idle
 returns-in_err-work_on-in-Got-clause-idle g c =
-    let q = c.in-Got.ensures.gives in let i = c.tasks.invariant in let t : ℕ = c.in-Got.ticket.task in
-    let e : c.work_on.new.board ≡ board_with_step (board_with_step c.tasks.self (Claim 0 t)) (PutDown 0 t) =
-    c.in_err-work_on-in-Got.ensures.err ∙ ap (λ (k : ℕ). board_with_step c.claim.new.self (PutDown k t)) q.0 ∙ ap (λ (v : BoardValue). board_with_step v (PutDown 0 t)) q.1 in
-    subst (λ (v : BoardValue). NobodyHolds v) (sym e) (idle_put_down c.tasks.self t i.idle)
+    let q = c.in-Got.ensures.gives in let t : ℕ = c.in-Got.ticket.task in
+    let ends : EndsBy (board_with_step c.tasks.self (Claim 0 t)) c.work_on.new.board (PutDown 0 t) =
+    subst (λ (k : ℕ). EndsBy (board_with_step c.tasks.self (Claim 0 t)) c.work_on.new.board (PutDown k t)) q.0 (subst (λ (v : BoardValue). EndsBy v c.work_on.new.board (PutDown c.in-Got.ticket.worker t)) q.1 c.in_err-work_on-in-Got.ensures.err) in
+    idle_put_down c.tasks.self c.work_on.new.board t ends c.tasks.invariant.idle
 
 pub returns-in_err-work_on-in-Got-clause-done : goal.returns-in_err-work_on-in-Got-clause-done
 returns-in_err-work_on-in-Got-clause-done g c = λ fin.

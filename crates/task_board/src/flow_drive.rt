@@ -1,0 +1,249 @@
+//! The work of a transport's task, driven by its holder.
+
+ghost use Rattle.std.specs.Prelude.{◌≡◌, IfOk, MatchBool, OnErr, OnOk, None, Some, false, true};
+ghost use Rattle.std.specs.Arc.{arc_value};
+ghost use Rattle.std.specs.Option.{IsSome, IsSomeAnd, option_map};
+ghost use Rattle.core_model.specs.declared.step.Step.TheVariants.{PutDown as PutDownStep};
+ghost use Rattle.border_channel.specs.Locals.{local_part};
+ghost use Rattle.border_channel.specs.Outbound.{next_due, next_message};
+ghost use Rattle.border_channel.specs.Settled.{all_settled};
+ghost use Rattle.drain_meaning.specs.Equations.{orient_of, transport_of};
+ghost use Rattle.flow_task.specs.Works.{CanAccept, accepted, marked};
+ghost use Rattle.plan_graph.specs.PlanGraphs.{graph_of};
+ghost use Rattle.task_tiles.specs.FlowTiles.{IsFlowBegun};
+ghost use Rattle.task_board.specs.Boards.{HoldsTask, IsLegal, IsTileFor, state_of};
+ghost use Rattle.task_board.specs.Claims.{NoMessageFor};
+ghost use Rattle.task_board.specs.Messages.{HasToWait, IsAtItsEnd};
+ghost use Rattle.task_board.specs.Tickets.{IsGoodTicket, work_in};
+ghost use Rattle.task_board.specs.inside.Driven.{EndsWell, EndsBy, GoesOn, MakesStep, SendsNone, StaysSo};
+
+use crate::board::Board;
+use crate::let_go::let_go;
+use crate::ticket::Ticket;
+use border_channel::Message;
+use flow_task::FlowKit;
+use std::alloc::{AllocError, Global};
+use std::sync::Arc;
+use task_tiles::Tile;
+use tile_map::Part;
+use tile_tasks::{begin_flow, settled_works_give_their_tiles};
+
+// ---- the work of a ticket
+
+// The next message.
+fn next_of<K: FlowKit>(kit: K, ticket: &Ticket<K>) -> Option<Message>
+    requires { IsSome ticket.now.work }
+    ensures { IsSomeAnd (work_in K.work_of ticket.now) (λ w. result ≡ next_message (transport_of w.which) w.of w.sent) }
+{
+    match &ticket.work {
+        Some(work) => kit.next_out(work),
+        None => unreachable!(),
+    }
+}
+
+// Marks an edge as sent.
+fn mark<K: FlowKit>(kit: K, ticket: &mut Ticket<K>, edge: u32)
+    requires { IsSomeAnd (work_in K.work_of ticket.old) (λ w. next_due (orient_of w.which) w.of w.sent ≡ Some edge) }
+    ensures worker { ticket.new.worker ≡ ticket.old.worker }
+    ensures task { ticket.new.task ≡ ticket.old.task }
+    ensures work { work_in K.work_of ticket.new ≡ option_map (λ w. marked w edge) (work_in K.work_of ticket.old) }
+{
+    match &mut ticket.work {
+        Some(work) => kit.mark_sent(work, edge),
+        None => unreachable!(),
+    }
+}
+
+// Accepts a message.
+fn accept<K: FlowKit>(kit: K, ticket: &mut Ticket<K>, message: Message)
+    requires { IsSomeAnd (work_in K.work_of ticket.old) (λ w. CanAccept (orient_of w.which) w.of message) }
+    ensures worker { ticket.new.worker ≡ ticket.old.worker }
+    ensures task { ticket.new.task ≡ ticket.old.task }
+    ensures work { work_in K.work_of ticket.new ≡ option_map (λ w. accepted w message) (work_in K.work_of ticket.old) }
+{
+    match &mut ticket.work {
+        Some(work) => kit.accept(work, message),
+        None => unreachable!(),
+    }
+}
+
+// Whether all cells are settled.
+fn is_settled<K: FlowKit>(kit: K, ticket: &Ticket<K>) -> bool
+    requires { IsSome ticket.now.work }
+    ensures { IsSomeAnd (work_in K.work_of ticket.now) (λ w. result ≡ all_settled (orient_of w.which) w.of) }
+{
+    match &ticket.work {
+        Some(work) => kit.is_settled(work),
+        None => unreachable!(),
+    }
+}
+
+// The results of the tile.
+fn finish<K: FlowKit>(kit: K, alloc: Global, ticket: &Ticket<K>) -> Result<Part, AllocError>
+    requires { IsSomeAnd (work_in K.work_of ticket.now) IsAtItsEnd }
+    ensures { IfOk result (λ part. IsSomeAnd (work_in K.work_of ticket.now) (λ w. part ≡ local_part (transport_of w.which) w.of)) }
+{
+    match &ticket.work {
+        Some(work) => kit.finish(alloc, work),
+        None => unreachable!(),
+    }
+}
+
+// ---- on a board
+
+impl<K: FlowKit> Board<K> {
+    // The work of a held task of a transport that was not begun.
+    fn begun(&self, alloc: Global, ticket: &Ticket<K>) -> Result<K::Work, AllocError>
+        requires holds { HoldsTask self.now ticket.now.worker ticket.now.task }
+        requires flow { (graph_of self.now.plan).is_flow ticket.now.task ≡ true }
+        ensures { IfOk result (λ w. IsFlowBegun self.now.plan.plan self.now.plan.span self.now.program self.now.known ticket.now.task (K.work_of w)) }
+    {
+        let mut tiles = Vec::new(alloc);
+        self.inputs_into(ticket, &mut tiles)?;
+        let task = ticket.task;
+        let work = begin_flow(
+            alloc,
+            &self.kit,
+            self.plan.plan(),
+            self.plan.span(),
+            &self.program,
+            &self.known,
+            self.plan.edges(task),
+            self.plan.edges_into(task),
+            self.plan.edges_out_of(task),
+            task,
+            tiles.as_slice(),
+        )?;
+        Ok(work)
+    }
+
+    // Begins the work of a ticket, unless it was begun.
+    fn begin(&self, alloc: Global, ticket: &mut Ticket<K>) -> Result<(), AllocError>
+        requires good { IsGoodTicket K.work_of self.now ticket.old }
+        requires flow { (graph_of self.now.plan).is_flow ticket.old.task ≡ true }
+        ensures worker { ticket.new.worker ≡ ticket.old.worker }
+        ensures task { ticket.new.task ≡ ticket.old.task }
+        ensures good { IsGoodTicket K.work_of self.now ticket.new }
+        ensures begun { OnOk result (IsSome ticket.new.work) }
+    {
+        if ticket.work.is_some() {
+            return Ok(());
+        }
+        let work = self.begun(alloc, ticket)?;
+        ticket.work = Some(work);
+        Ok(())
+    }
+
+    // Sends the next message of a ticket's work, if there is one.
+    fn send_next(&mut self, ticket: &mut Ticket<K>) -> bool
+        requires good { IsGoodTicket K.work_of self.old ticket.old }
+        requires begun { IsSome ticket.old.work }
+        ensures goes { MatchBool result (MakesStep K.work_of self.old self.new ticket.old ticket.new) (StaysSo self.old self.new ticket.old ticket.new × SendsNone K.work_of ticket.old) }
+        ensures legal { IsLegal self.new }
+    {
+        let _workers = self.workers();
+        match next_of(self.kit(), ticket) {
+            None => false,
+            Some(message) => {
+                let edge = message.edge;
+                self.send(ticket, message);
+                mark(self.kit(), ticket, edge);
+                true
+            }
+        }
+    }
+
+    // Takes a message for a ticket's work, if one waits.
+    fn take_next(&mut self, ticket: &mut Ticket<K>) -> bool
+        requires good { IsGoodTicket K.work_of self.old ticket.old }
+        requires begun { IsSome ticket.old.work }
+        ensures goes { MatchBool result (MakesStep K.work_of self.old self.new ticket.old ticket.new) (StaysSo self.old self.new ticket.old ticket.new × NoMessageFor self.old ticket.old.task) }
+        ensures legal { IsLegal self.new }
+    {
+        match self.take(ticket) {
+            None => false,
+            Some(message) => {
+                accept(self.kit(), ticket, message);
+                true
+            }
+        }
+    }
+
+    // Sends all messages that a ticket's work has to send.
+    fn send_all(&mut self, ticket: &mut Ticket<K>)
+        requires good { IsGoodTicket K.work_of self.old ticket.old }
+        requires begun { IsSome ticket.old.work }
+        ensures goes { GoesOn K.work_of self.old self.new ticket.old ticket.new }
+        ensures none { SendsNone K.work_of ticket.new }
+        ensures legal { IsLegal self.new }
+    {
+        let _plan = self.plan();
+        while self.send_next(ticket) {}
+    }
+
+    // Whether the ticket's work is at its end, where it has nothing to send; else it has to wait.
+    fn is_at_its_end(&self, ticket: &Ticket<K>) -> bool
+        requires good { IsGoodTicket K.work_of self.now ticket.now }
+        requires begun { IsSome ticket.now.work }
+        requires none { SendsNone K.work_of ticket.now }
+        ensures { MatchBool result (IsSomeAnd (work_in K.work_of ticket.now) IsAtItsEnd) (IsSomeAnd (work_in K.work_of ticket.now) HasToWait) }
+    {
+        is_settled(self.kit, ticket)
+    }
+
+    // The tile of a ticket's task, whose work is at its end.
+    fn finished(&self, alloc: Global, ticket: &Ticket<K>) -> Result<Arc<Tile>, AllocError>
+        requires good { IsGoodTicket K.work_of self.now ticket.now }
+        requires end { IsSomeAnd (work_in K.work_of ticket.now) IsAtItsEnd }
+        ensures { IfOk result (λ tile. IsTileFor self.now ticket.now.task (arc_value tile)) }
+    {
+        settled_works_give_their_tiles();
+        let part = finish(self.kit, alloc, ticket)?;
+        let tile = Arc::new(alloc, Tile::of_part(part))?;
+        Ok(tile)
+    }
+
+    // Goes on with a ticket's work until its task is published, or no message waits for it and it is parked; or puts it down
+    // where memory is refused.
+    fn go_on(&mut self, alloc: Global, ticket: Ticket<K>) -> Result<(), AllocError>
+        requires good { IsGoodTicket K.work_of self.old ticket }
+        requires begun { IsSome ticket.work }
+        requires can { (state_of self.old).has_put_down ticket.worker ≡ false }
+        ensures ok { OnOk result (EndsWell self.old self.new ticket.worker ticket.task) }
+        ensures err { OnErr result (EndsBy self.old self.new (PutDownStep ticket.worker ticket.task)) }
+        ensures legal { IsLegal self.new }
+    {
+        let _plan = self.plan();
+        let mut ticket = ticket;
+        loop {
+            self.send_all(&mut ticket);
+            if self.is_at_its_end(&ticket) {
+                let made = self.finished(alloc, &ticket);
+                return let_go(self, ticket, made);
+            }
+            if !self.take_next(&mut ticket) {
+                self.park(ticket);
+                return Ok(());
+            }
+        }
+    }
+
+    // Works on a held task of a transport.
+    pub(crate) fn flow_on(&mut self, alloc: Global, ticket: Ticket<K>) -> Result<(), AllocError>
+        requires good { IsGoodTicket K.work_of self.old ticket }
+        requires flow { (graph_of self.old.plan).is_flow ticket.task ≡ true }
+        requires can { (state_of self.old).has_put_down ticket.worker ≡ false }
+        ensures ok { OnOk result (EndsWell self.old self.new ticket.worker ticket.task) }
+        ensures err { OnErr result (EndsBy self.old self.new (PutDownStep ticket.worker ticket.task)) }
+        ensures legal { IsLegal self.new }
+    {
+        let mut ticket = ticket;
+        match self.begin(alloc, &mut ticket) {
+            Ok(()) => self.go_on(alloc, ticket),
+            Err(refused) => {
+                self.put_down(ticket);
+                Err(refused)
+            }
+        }
+    }
+}
