@@ -7,7 +7,7 @@ use Rattle.std.specs.List.{Contains}
 use mathlib.Core.Logic.{dite}
 use native.Mathlib.Decide.{ℕ_discrete}
 use Rattle.core_model.specs.Counts.{flag}
-use Rattle.core_model.specs.Graphs.{Graph, Each, In, edge_at}
+use Rattle.core_model.specs.Graphs.{Graph, Each, In}
 use Rattle.core_model.specs.declared.step.Step.{Step}
 use Rattle.core_model.specs.Runs.{after}
 use Rattle.core_model.specs.Cores.{Core, upd}

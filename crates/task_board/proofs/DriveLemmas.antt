@@ -1,5 +1,5 @@
 -- One task that the caller claims and lets go of again.
-use Rattle.std.proofs.Common.{◌≡◌, ◌≢◌, ◌∙◌, ℕ, ◌-◌, ◌<◌, ◌≤◌, false, ⊎_elim, List, [], ◌∷◌, ◌++◌, length, ap, sym, subst, arith, append_assoc, length-append, inl, inr, refl, Bool, Ok, Err}
+use Rattle.std.proofs.Common.{◌≡◌, ◌≢◌, ◌∙◌, ℕ, ◌-◌, ◌<◌, false, List, [], ◌∷◌, ◌++◌, length, ap, sym, subst, arith, append_assoc, length-append, inl, inr, refl, Bool, Ok, Err}
 use Rattle.std.specs.Prelude.{OnErr, OnOk, Result}
 use Rattle.core_model.specs.declared.step.Step.{Step}
 use Rattle.core_model.specs.declared.step.Step.TheVariants.{Claim, Park, Publish, PutDown}

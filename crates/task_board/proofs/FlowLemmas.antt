@@ -1,10 +1,8 @@
 -- What a work over a tile says of the core's state.
-use Rattle.std.proofs.Common.{◌≡◌, ℕ, ◌<◌, Bool, true, false, not, ◌&&◌, eq-eqb, eqb-true, inl, ⊎_elim, List, [], length, get_or, map, Option, Some, None, slice_get}
+use Rattle.std.proofs.Common.{◌≡◌, ℕ, ◌<◌, Bool, true, false, not, ◌&&◌, eq-eqb, eqb-true, inl, ⊎_elim, List, length, Option, Some, None, slice_get}
 use Rattle.std.proofs.Common.{refl, ap, sym, ◌∙◌, subst, arith}
 use Rattle.std.specs.Option.{IsSome, IsSomeAnd}
 use Rattle.std.specs.List.{filter, list_all, range_with_len}
-use Rattle.std.proofs.lemmas.List.{get_or-map}
-use Rattle.std.proofs.lemmas.Option.{get_or_from_slice_get}
 use Rattle.core_model.specs.Graphs.{Graph, In, edge_at as edge_number, from_task}
 use Rattle.core_model.specs.declared.step.Step.TheVariants.{Park}
 use Rattle.core_model.specs.Cores.{held, opening}
@@ -16,7 +14,6 @@ use Rattle.tile_map.specs.Laws.{IsHeldPlace}
 use Rattle.tile_map.specs.Tiles.{rect_of, tile_at, tile_count}
 use Rattle.tile_map.specs.declared.tiling.Tiling.{Tiling}
 use Rattle.tile_map.proofs.Callers.{ascends_over_places, tile_in_map, tile_only}
-use Rattle.drain_meaning.specs.declared.flow.Flow.{Flow}
 use Rattle.drain_meaning.specs.declared.op.FlowOp.{FlowOp}
 use Rattle.drain_meaning.specs.declared.op.Orient.{Orient}
 use Rattle.drain_meaning.specs.Drains.{DrainMap}
@@ -26,38 +23,34 @@ use Rattle.drain_meaning.specs.Paths.{IsDirected}
 use Rattle.border_channel.specs.Loads.{load_of}
 use Rattle.drain_meaning.specs.Transports.{Transport, end_of}
 use Rattle.drain_meaning.specs.declared.end.FlowEnd.{FlowEnd}
-use Rattle.border_channel.specs.Laws.{IsTileOf, StandsForWhole}
+use Rattle.border_channel.specs.Laws.{IsTileOf}
 use Rattle.border_channel.specs.declared.edge.Edge.{Edge}
 use Rattle.border_channel.specs.declared.edge.Message.{Message}
 use Rattle.border_channel.specs.Edges.{border_edges_of, edge_at}
 use Rattle.border_channel.specs.Outbound.{all_sent, is_due, leaves, message_for, message_of, next_due, was_sent}
 use Rattle.border_channel.specs.Settled.{all_settled, is_settled}
-use Rattle.border_channel.specs.TileFlows.{TileFlow, in_tile, with_taken}
+use Rattle.border_channel.specs.TileFlows.{TileFlow, in_tile}
 use Rattle.border_channel.proofs.Callers.{held_in_tile, settled_right}
-use Rattle.flow_task.specs.Works.{CanAccept, TileWork, flow_begun}
-use Rattle.map_meaning.specs.declared.op.Op.TheVariants as op
+use Rattle.flow_task.specs.Works.{CanAccept, TileWork}
 use Rattle.map_meaning.specs.Evaluation.{operand_cell}
 use Rattle.map_meaning.specs.Spans.{scene_of}
 use Rattle.map_meaning.specs.declared.program.Operand.{Operand}
-use Rattle.map_meaning.specs.declared.program.Operation.{Operation}
-use Rattle.task_graph.specs.declared.task.Task.{Task}
-use Rattle.task_graph.specs.Plans.{no_task, task_at}
-use Rattle.plan_graph.specs.Borders.{drain_at, no_drain_map, orient_at, transport_at}
-use Rattle.plan_graph.specs.Graphs.{is_flow_work}
+use Rattle.task_graph.specs.Plans.{task_at}
+use Rattle.plan_graph.specs.Borders.{orient_at}
 use Rattle.plan_graph.specs.PlanGraphs.{graph_of}
 use Rattle.plan_graph.specs.Transports.{cells_in_map, point_at, task_edges, task_transport}
-use Rattle.plan_graph.proofs.Callers.{cell_of_point, edge_leaves, entering_edge, joins_alike, leaving_edge, point_of_cell, task_edges_are}
+use Rattle.plan_graph.proofs.Callers.{cell_of_point, edge_leaves, entering_edge, joins_alike, leaving_edge, point_of_cell}
 use Rattle.task_tiles.specs.FlowTiles.{task_operand}
 use Rattle.tile_tasks.specs.FlowLaws.{MessagesFit}
 use Rattle.task_tiles.specs.TaskTiles.{onward_done, span_section}
 use Rattle.task_states.proofs.Callers.{get_any}
-use Rattle.tile_tasks.proofs.Callers.{transport_of_task}
 use Rattle.task_board.specs.Claims.{NoMessageFor}
 use Rattle.task_board.specs.Messages.{HasToWait, IsAtItsEnd, IsMessageOf, StandsOn}
 use Rattle.task_board.specs.Tickets.{IsDone, IsGood, IsTaskWork}
 use Rattle.task_board.specs.inside.Held.{IsBoard, Parts, board_of, state_in}
 use Rattle.task_board.proofs.BoardLemmas.{core_task, keeps_run}
 use Rattle.task_board.proofs.FoundLemmas.{all_pass, any_in, below_in, contains_in, find_none, find_passes, find_there, in_any, in_below, in_contains, in_mapped, kept_in, mapped_in, not_all}
+use Rattle.task_board.proofs.OwnLemmas.{IsOwn, drain_is, edge_there, edges_are, flows_out, is_flow_task, of_is, own, same_by, whole}
 use Rattle.task_board.proofs.HistoryLemmas.{listed_sent, listed_taken, sent_listed, taken_listed}
 use Rattle.task_board.proofs.TileLemmas.{TakesAlike, is_tile, settled_cell, source_directed, source_low, settled_point, tile_flow}
 
@@ -82,60 +75,15 @@ module _ {x : Parts} (b : IsBoard x) (t : ℕ) (lt : t < x.plan.tasks) (flow : (
   abbrev tile : ℕ
   tile = (task_at x.plan.plan t).tile
 
-  is_flow_task : is_flow_work (task_at x.plan.plan t).work ≡ true
-  is_flow_task =
-      let p = b.plan in
-      let inside : t < length x.plan.plan.tasks = (let k = p.plan_tasks in omega arith) in
-      sym (get_or-map (λ (k : Task). is_flow_work k.work) x.plan.plan.tasks t no_task false inside)
-      ∙ (ap (λ (l : List Bool). get_or l t false) (sym p.plan_flows) ∙ (sym (p.flow t lt) ∙ flow))
-
-  -- what the transport of its operation has, the task's transport has
-  pub record IsOwn (q : FlowOp) (m : DrainMap) : Type 0 where
-    pub orient : orient_of q ≡ orient_at x.plan.plan f
-    pub drain : m ≡ drain_at x.plan.plan x.plan.drains f
-    pub edges : border_edges_of m g (orient_of q) ≡ es
-
-  pub is_own : (o : Operation) (q : FlowOp) (m : DrainMap) → slice_get (span_section x.program x.plan.span) (task_at x.plan.plan t).operation ≡ Some o → o.op ≡ op.Flow q → slice_get x.known.drains o.drain ≡ Some m → IsOwn q m
-  is_own o q m there transport along =
-      let at = b.plan.transports.at_tile t lt flow in
-      let inside : t < length x.plan.plan.tasks = (let k = b.plan.plan_tasks in omega arith) in
-      let of = transport_of_task x.plan.plan x.plan.span x.program x.known t f o q b.of.planned inside is_flow_task at.there at.number there transport in
-      let drain : m ≡ drain_at x.plan.plan x.plan.drains f =
-      sym (get_or_from_slice_get x.known.drains o.drain m no_drain_map along) ∙ ap (λ (k : ℕ). get_or x.known.drains k no_drain_map) (sym of.1)
-      ∙ ap (λ (ds : List DrainMap). get_or ds (transport_at x.plan.plan f).drain no_drain_map) (sym b.of.drains) in
-      let orient : orient_of q ≡ orient_at x.plan.plan f = ap orient_of (sym of.0) in
-      record {
-        orient = orient;
-        drain = drain;
-        edges = ap (λ (d : DrainMap). border_edges_of d g (orient_of q)) drain ∙ ap (λ (o' : Orient). border_edges_of (drain_at x.plan.plan x.plan.drains f) g o') orient ∙ sym (task_edges_are x.plan.plan x.plan.drains t at.there);
-      }
-
-  -- an edge that a message stands for is one of the task's
-  pub edge_there : (m : Message) → StandsOn (board_of x) t m → m.edge < length es
-  edge_there m s = subst (λ (l : List Edge). m.edge < length l) (is_own s.operation s.op s.drain s.there s.transport s.along).edges s.within
-
   module _ (w : TileWork FlowOp) (h : IsTaskWork (board_of x) t w) where
     abbrev here : TileFlow
     here = tile_flow b.plan t lt flow w.of.kind w.of.a w.of.b w.of.taken
 
-    own : IsOwn w.which h.underway.begun.is.drain
-    own = let u = h.underway.begun in is_own u.operation w.which u.is.drain u.there u.transport u.is.along
+    owns : IsOwn b.plan b.of t lt flow w.which h.underway.begun.is.drain
+    owns = own b.plan b.of t lt flow w h
 
-    begun_is : with_taken w.of [] ≡ flow_begun w.of.kind w.of.drain w.of.tiling w.of.tile w.of.edges w.of.a w.of.b
-    begun_is = refl
-
-    -- its work is over the task's tile
-    pub of_is : w.of ≡ here
-    of_is =
-        let u = h.underway.begun.is in
-        let e = ap (λ (k : TileWork FlowOp). k.of) u.is in
-        let d : w.of.drain ≡ drain_at x.plan.plan x.plan.drains f = ap (λ (k : TileFlow). k.drain) e ∙ own.drain in
-        let i : w.of.tiling ≡ g = ap (λ (k : TileFlow). k.tiling) e in
-        let n : w.of.tile ≡ tile = ap (λ (k : TileFlow). k.tile) e in
-        let l : w.of.edges ≡ es = ap (λ (k : TileFlow). k.edges) e ∙ own.edges in
-        let make = λ (dm : DrainMap) (ti : Tiling) (tn : ℕ) (ed : List Edge). let z : TileFlow = record { kind = w.of.kind; drain = dm; tiling = ti; tile = tn; edges = ed; a = w.of.a; b = w.of.b; taken = w.of.taken } in z in
-        ap (λ (k : DrainMap). make k w.of.tiling w.of.tile w.of.edges) d ∙ ap (λ (k : Tiling). make (drain_at x.plan.plan x.plan.drains f) k w.of.tile w.of.edges) i
-        ∙ ap (λ (k : ℕ). make (drain_at x.plan.plan x.plan.drains f) g k w.of.edges) n ∙ ap (λ (k : List Edge). make (drain_at x.plan.plan x.plan.drains f) g tile k) l
+    is_here : w.of ≡ here
+    is_here = of_is b.plan b.of t lt flow w h
 
     -- the core and the work have taken the same
     takes_alike : TakesAlike b.plan t lt flow w.of.kind w.of.a w.of.b w.of.taken (state_in x).taken
@@ -143,7 +91,7 @@ module _ {x : Parts} (b : IsBoard x) (t : ℕ) (lt : t < x.plan.tasks) (flow : (
       brings = λ e low into took. ⊎_elim (λ z. absurd (cc)) (λ i. in_mapped (λ (m : Message). m.edge) w.of.taken e (subst (λ (l : List ℕ). In e l) (sym h.taken) i))
           (taken_listed (graph_of x.plan) x.workers opening x.history t e b.legal into took);
       took_it = λ m has. (
-        edge_there m (h.underway.stand m has),
+        edge_there b.plan b.of t lt flow m (h.underway.stand m has),
         listed_taken (graph_of x.plan) opening x.history t m.edge (subst (λ (l : List ℕ). In m.edge l) h.taken (mapped_in (λ (y : Message). y.edge) w.of.taken m (contains_in w.of.taken m has))),
       );
     }
@@ -187,10 +135,10 @@ module _ {x : Parts} (b : IsBoard x) (t : ℕ) (lt : t < x.plan.tasks) (flow : (
     -- all settled, by the work and by the core
     all_same : all_settled (orient_of w.which) w.of ≡ list_all (is_settled o here) tile_cells
     unfolding tile_cells
-    all_same = ap (all_settled (orient_of w.which)) of_is ∙ ap (λ (q : Orient). all_settled q here) own.orient
+    all_same = ap (all_settled (orient_of w.which)) is_here ∙ ap (λ (q : Orient). all_settled q here) owns.orient
 
     next_same : next_due (orient_of w.which) w.of w.sent ≡ next_due o here w.sent
-    next_same = ap (λ (k : TileFlow). next_due (orient_of w.which) k w.sent) of_is ∙ ap (λ (q : Orient). next_due q here w.sent) own.orient
+    next_same = ap (λ (k : TileFlow). next_due (orient_of w.which) k w.sent) is_here ∙ ap (λ (q : Orient). next_due q here w.sent) owns.orient
 
     not_true : (v : Bool) → (v ≡ true → ⊥) → v ≡ false
     not_true true h = absurd (h refl)
@@ -244,7 +192,7 @@ module _ {x : Parts} (b : IsBoard x) (t : ℕ) (lt : t < x.plan.tasks) (flow : (
       λ n low from.
           let at = leaving_edge b.plan t lt flow n low from in
           let e = at.place in
-          let all : all_sent here w.sent ≡ true = ap (λ (k : TileFlow). all_sent k w.sent) (sym of_is) ∙ end.1 in
+          let all : all_sent here w.sent ≡ true = ap (λ (k : TileFlow). all_sent k w.sent) (sym is_here) ∙ end.1 in
           let sent = all_pass (was_sent w.sent) (filter (leaves here) (range_with_len 0 (length es))) all e (kept_in (leaves here) (range_with_len 0 (length es)) e (below_in (length es) e at.within) (eq-eqb (tile_at g (source e)) tile at.tile)) in
           ap (state_in x).sent at.number ∙ was_sent_of e sent,
     )
@@ -262,54 +210,6 @@ module _ {x : Parts} (b : IsBoard x) (t : ℕ) (lt : t < x.plan.tasks) (flow : (
 
     abbrev drain : DrainMap
     drain = h.underway.begun.is.drain
-
-    -- what flows out of a cell over the whole map
-    flows_out : (k : Operation) (q : FlowOp) (m : DrainMap) (e : ℕ) → Flow
-    flows_out k q m e = (end_of (transport_of q) m (task_operand x.plan.plan x.plan.span x.program x.known t k.a) (task_operand x.plan.plan x.plan.span x.program x.known t k.b) (edge_at (border_edges_of m g (orient_of q)) e).source).out
-
-    -- a message stands for its edge by the operation, the transport and the drain map of the work
-    stands_by : (m : Message) → StandsOn (board_of x) t m → m.flow ≡ flows_out h.underway.begun.operation w.which drain m.edge
-    unfolding flows_out
-    stands_by m s =
-        let u = h.underway.begun in
-        let ops : s.operation ≡ u.operation = (let z : Some s.operation ≡ Some u.operation = sym s.there ∙ u.there in cc) in
-        let flows : op.Flow s.op ≡ op.Flow w.which = sym s.transport ∙ (ap (λ (k : Operation). k.op) ops ∙ u.transport) in
-        let which : s.op ≡ w.which = cc in
-        let maps : s.drain ≡ drain = (let z : Some s.drain ≡ Some drain = sym s.along ∙ (ap (λ (k : Operation). slice_get x.known.drains k.drain) ops ∙ u.is.along) in cc) in
-        s.brings ∙ ap (λ (k : Operation). flows_out k s.op s.drain m.edge) ops ∙ ap (λ (q : FlowOp). flows_out u.operation q s.drain m.edge) which ∙ ap (λ (d : DrainMap). flows_out u.operation w.which d m.edge) maps
-
-    same_by : (m : Message) (s : StandsOn (board_of x) t m) → (s.op ≡ w.which) × (s.drain ≡ drain)
-    same_by m s =
-        let u = h.underway.begun in
-        let ops : s.operation ≡ u.operation = (let z : Some s.operation ≡ Some u.operation = sym s.there ∙ u.there in cc) in
-        let flows : op.Flow s.op ≡ op.Flow w.which = sym s.transport ∙ (ap (λ (k : Operation). k.op) ops ∙ u.transport) in
-        (cc, (let z : Some s.drain ≡ Some drain = sym s.along ∙ (ap (λ (k : Operation). slice_get x.known.drains k.drain) ops ∙ u.is.along) in cc))
-
-    tiling_is : w.of.tiling ≡ g
-    tiling_is = ap (λ (k : TileWork FlowOp). k.of.tiling) h.underway.begun.is.is
-
-    tile_is : w.of.tile ≡ tile
-    tile_is = ap (λ (k : TileWork FlowOp). k.of.tile) h.underway.begun.is.is
-
-    edges_are : w.of.edges ≡ border_edges_of drain g (orient_of w.which)
-    edges_are = ap (λ (k : TileWork FlowOp). k.of.edges) h.underway.begun.is.is
-
-    drain_is : w.of.drain ≡ drain
-    drain_is = ap (λ (k : TileWork FlowOp). k.of.drain) h.underway.begun.is.is
-
-    -- the places of the tile are those of the work
-    places_are : places_of w.of.tiling.cols (rect_of w.of.tiling w.of.tile) ≡ places_of g.cols (rect_of g tile)
-    places_are = ap (λ (k : Tiling). places_of k.cols (rect_of k w.of.tile)) tiling_is ∙ ap (λ (k : ℕ). places_of g.cols (rect_of g k)) tile_is
-
-    -- the work stands for the whole map's operands
-    pub whole : StandsForWhole tr w.of a b'
-    unfolding flows_out
-    whole = record {
-      a_cut = ap (λ (k : TileWork FlowOp). k.of.a) h.underway.begun.is.is ∙ ap (map a) (sym places_are);
-      b_cut = ap (λ (k : TileWork FlowOp). k.of.b) h.underway.begun.is.is ∙ ap (map b') (sym places_are);
-      messages = λ m has. stands_by m (h.underway.stand m has) ∙ ap (λ (d : DrainMap). (end_of tr d a b' (edge_at (border_edges_of drain g (orient_of w.which)) m.edge).source).out) (sym drain_is)
-          ∙ ap (λ (l : List Edge). (end_of tr w.of.drain a b' (edge_at l m.edge).source).out) (sym edges_are);
-    }
 
     -- the message that the work has to send
     due_edge : (q : Option ℕ) (m : Message) → message_for tr w.of q ≡ Some m → (e : ℕ) × (q ≡ Some e) × (m ≡ message_of tr w.of e)
@@ -337,13 +237,13 @@ module _ {x : Parts} (b : IsBoard x) (t : ℕ) (lt : t < x.plan.tasks) (flow : (
         let unsent : (state_in x).sent (edge_number G t e) ≡ false = not_true ((state_in x).sent (edge_number G t e)) (λ q. let z : true ≡ false = sym (sent_was e leaves'.1 q) ∙ parts.2 in cc) in
         let can : CanSend G (state_in x) v t (edge_number G t e) = (core_task b t lt, (is, flow), leaves'.0, leaves'.1, settled, unsent) in
         let u = h.underway.begun in
-        let at : (edge_at w.of.edges e).source ≡ source e = ap (λ (k : TileFlow). (edge_at k.edges e).source) of_is in
-        let inner : in_tile w.of (edge_at w.of.edges e).source ≡ true = ap (λ (k : TileFlow). in_tile k (edge_at k.edges e).source) of_is ∙ parts.0 in
-        let directed : IsDirected w.of.drain (edge_at w.of.edges e).source = subst (λ (k : TileFlow). IsDirected k.drain (edge_at k.edges e).source) (sym of_is) (source_directed b.plan t lt flow w.of.kind w.of.a w.of.b w.of.taken e low) in
-        let done : is_settled (orient_of w.which) w.of (edge_at w.of.edges e).source ≡ true = ap (λ (k : TileFlow). is_settled (orient_of w.which) k (edge_at k.edges e).source) of_is ∙ ap (λ (q : Orient). is_settled q here (source e)) own.orient ∙ parts.1 in
-        let right = settled_right tr w.of a b' (subst IsTileOf (sym of_is) (is_tile b.plan t lt flow w.of.kind w.of.a w.of.b w.of.taken)) whole (edge_at w.of.edges e).source inner directed done in
-        let brings : m.flow ≡ flows_out u.operation w.which drain e =
-        ap (λ (k : Message). k.flow) due.2 ∙ ap (λ (k : FlowEnd). k.out) right ∙ ap (λ (d : DrainMap). (end_of tr d a b' (edge_at w.of.edges e).source).out) drain_is ∙ ap (λ (l : List Edge). (end_of tr drain a b' (edge_at l e).source).out) edges_are in
+        let at : (edge_at w.of.edges e).source ≡ source e = ap (λ (k : TileFlow). (edge_at k.edges e).source) is_here in
+        let inner : in_tile w.of (edge_at w.of.edges e).source ≡ true = ap (λ (k : TileFlow). in_tile k (edge_at k.edges e).source) is_here ∙ parts.0 in
+        let directed : IsDirected w.of.drain (edge_at w.of.edges e).source = subst (λ (k : TileFlow). IsDirected k.drain (edge_at k.edges e).source) (sym is_here) (source_directed b.plan t lt flow w.of.kind w.of.a w.of.b w.of.taken e low) in
+        let done : is_settled (orient_of w.which) w.of (edge_at w.of.edges e).source ≡ true = ap (λ (k : TileFlow). is_settled (orient_of w.which) k (edge_at k.edges e).source) is_here ∙ ap (λ (q : Orient). is_settled q here (source e)) owns.orient ∙ parts.1 in
+        let right = settled_right tr w.of a b' (subst IsTileOf (sym is_here) (is_tile b.plan t lt flow w.of.kind w.of.a w.of.b w.of.taken)) (whole b.plan b.of t lt flow w h) (edge_at w.of.edges e).source inner directed done in
+        let brings : m.flow ≡ flows_out b.plan b.of t lt flow w h u.operation w.which drain e =
+        ap (λ (k : Message). k.flow) due.2 ∙ ap (λ (k : FlowEnd). k.out) right ∙ ap (λ (d : DrainMap). (end_of tr d a b' (edge_at w.of.edges e).source).out) (drain_is b.plan b.of t lt flow w h) ∙ ap (λ (l : List Edge). (end_of tr drain a b' (edge_at l e).source).out) (edges_are b.plan b.of t lt flow w h) in
         record {
           can = subst (λ (k : ℕ). CanSend G (state_in x) v t (edge_number G t k)) (sym edge) can;
           inside = subst (λ (k : ℕ). k < length es) (sym edge) low;
@@ -354,8 +254,8 @@ module _ {x : Parts} (b : IsBoard x) (t : ℕ) (lt : t < x.plan.tasks) (flow : (
             there = u.there;
             transport = u.transport;
             along = u.is.along;
-            within = subst (λ (k : ℕ). k < length (border_edges_of drain g (orient_of w.which))) (sym edge) (subst (λ (l : List Edge). e < length l) (sym own.edges) low);
-            brings = brings ∙ ap (flows_out u.operation w.which drain) (sym edge);
+            within = subst (λ (k : ℕ). k < length (border_edges_of drain g (orient_of w.which))) (sym edge) (subst (λ (l : List Edge). e < length l) (sym owns.edges) low);
+            brings = brings ∙ ap (flows_out b.plan b.of t lt flow w h u.operation w.which drain) (sym edge);
           };
         }
 
@@ -364,24 +264,24 @@ module _ {x : Parts} (b : IsBoard x) (t : ℕ) (lt : t < x.plan.tasks) (flow : (
     unfolding flows_out
     accepts fit v m can s =
         let n = edge_number G t m.edge in
-        let low = edge_there m s in
+        let low = edge_there b.plan b.of t lt flow m s in
         let at = entering_edge b.plan t lt flow n can.2 can.3 in
         let place : at.place ≡ m.edge = (let k = at.number in omega arith) in
         let inside : t < length x.plan.plan.tasks = (let k = b.plan.plan_tasks in omega arith) in
         record {
-          within = subst (λ (k : TileFlow). m.edge < length k.edges) (sym of_is) low;
-          into = ap (λ (k : TileFlow). in_tile k (edge_at k.edges m.edge).target) of_is ∙ eq-eqb (tile_at g (edge_at es m.edge).target) tile (ap (λ (k : ℕ). tile_at g (edge_at es k).target) (sym place) ∙ at.tile);
+          within = subst (λ (k : TileFlow). m.edge < length k.edges) (sym is_here) low;
+          into = ap (λ (k : TileFlow). in_tile k (edge_at k.edges m.edge).target) is_here ∙ eq-eqb (tile_at g (edge_at es m.edge).target) tile (ap (λ (k : ℕ). tile_at g (edge_at es k).target) (sym place) ∙ at.tile);
           first = λ y has same.
               let took' : took n ≡ true = ap (λ (k : ℕ). took (edge_number G t k)) (sym same) ∙ (takes_alike.took_it y has).1 in
               let waits = (keeps_run b).waits (G.channel_of n) n (subst (λ (l : List ℕ). In n l) (sym can.4.1) (inl refl)) in
               let z : true ≡ false = sym took' ∙ waits.3 in cc;
           fits =
-              let same = same_by m s in
-              let given = fit x.plan.plan x.plan.span x.program x.known t m b.of.planned inside is_flow_task s in
+              let same = same_by b.plan b.of t lt flow w h m s in
+              let given = fit x.plan.plan x.plan.span x.program x.known t m b.of.planned inside (is_flow_task b.plan b.of t lt flow) s in
               let here' = subst (λ (d : DrainMap). FlowFits m.flow (load_of (orient_of w.which) d (edge_at (border_edges_of d g (orient_of w.which)) m.edge).source)) same.1
               (subst (λ (q : FlowOp). FlowFits m.flow (load_of (orient_of q) s.drain (edge_at (border_edges_of s.drain g (orient_of q)) m.edge).source)) same.0 given) in
-              subst (λ (l : List Edge). FlowFits m.flow (load_of (orient_of w.which) w.of.drain (edge_at l m.edge).source)) (sym edges_are)
-              (subst (λ (d : DrainMap). FlowFits m.flow (load_of (orient_of w.which) d (edge_at (border_edges_of drain g (orient_of w.which)) m.edge).source)) (sym drain_is) here');
+              subst (λ (l : List Edge). FlowFits m.flow (load_of (orient_of w.which) w.of.drain (edge_at l m.edge).source)) (sym (edges_are b.plan b.of t lt flow w h))
+              (subst (λ (d : DrainMap). FlowFits m.flow (load_of (orient_of w.which) d (edge_at (border_edges_of drain g (orient_of w.which)) m.edge).source)) (sym (drain_is b.plan b.of t lt flow w h)) here');
         }
 
 module _ {x : Parts} (b : IsBoard x) where

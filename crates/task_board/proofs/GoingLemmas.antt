@@ -1,10 +1,10 @@
 -- A holder that goes on with its task.
-use Rattle.std.proofs.Common.{◌≡◌, ◌∙◌, ℕ, ◌+◌, ◌-◌, ◌<◌, ◌≤◌, List, [], ◌∷◌, ◌++◌, length, Bool, Option, Some, None, refl, ap, sym, subst, arith, append_assoc, length-append}
+use Rattle.std.proofs.Common.{◌≡◌, ◌∙◌, ℕ, ◌-◌, ◌<◌, ◌≤◌, List, [], ◌∷◌, ◌++◌, length, Option, Some, None, refl, ap, sym, subst, arith, append_assoc, length-append}
 use Rattle.std.proofs.lemmas.List.{append-nil}
 use Rattle.std.specs.Option.{IsSome, option_map}
 use Rattle.core_model.specs.declared.step.Step.{Step}
 use Rattle.core_model.specs.declared.step.Step.TheVariants.{Send, Take}
-use Rattle.core_model.specs.Cores.{Core, Status, opening}
+use Rattle.core_model.specs.Cores.{Core, opening}
 use Rattle.core_model.specs.Steps.{effect}
 use Rattle.core_model.proofs.Callers.{after_snoc, bounded, puts_down_once}
 use Rattle.drain_meaning.specs.declared.op.FlowOp.{FlowOp}
@@ -101,11 +101,11 @@ some_mapped : {W V : Type 0} (f : W → V) (o : Option W) → IsSome (option_map
 some_mapped f None has = absurd (cc)
 some_mapped f (Some x) has = refl
 
-good_sent : (b : BoardValue) (w t e : ℕ) (o : Option (TileWork FlowOp)) → IsSome o → IsGood b w t o → IsGood (board_with_step b (Send w t e)) w t (option_map (λ k. marked k e) o)
+pub good_sent : (b : BoardValue) (w t e : ℕ) (o : Option (TileWork FlowOp)) → IsSome o → IsGood b w t o → IsGood (board_with_step b (Send w t e)) w t (option_map (λ k. marked k e) o)
 good_sent b w t e None has good = absurd (cc)
 good_sent b w t e (Some k) has good = sent_good b w t k e good
 
-good_taken : (b : BoardValue) (w t : ℕ) (m : Message) (o : Option (TileWork FlowOp)) → IsSome o → IsGood b w t o → StandsOn b t m → IsGood (board_with_step b (Take w t m.edge)) w t (option_map (λ k. accepted k m) o)
+pub good_taken : (b : BoardValue) (w t : ℕ) (m : Message) (o : Option (TileWork FlowOp)) → IsSome o → IsGood b w t o → StandsOn b t m → IsGood (board_with_step b (Take w t m.edge)) w t (option_map (λ k. accepted k m) o)
 good_taken b w t m None has good stands = absurd (cc)
 good_taken b w t m (Some k) has good stands = taken_good b w t k m good stands
 

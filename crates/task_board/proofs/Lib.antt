@@ -9,6 +9,7 @@ pub mod TicketLemmas
 pub mod GoingLemmas
 pub mod EndLemmas
 pub mod TileLemmas
+pub mod OwnLemmas
 pub mod FlowLemmas
 pub mod SendLemmas
 pub mod PublishLemmas
@@ -19,3 +20,4 @@ pub mod PartOvers
 pub mod SpanNotes
 pub mod ToldLemmas
 pub mod MapLemmas
+pub mod Callers

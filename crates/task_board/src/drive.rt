@@ -10,12 +10,12 @@ ghost use Rattle.task_board.specs.inside.Driven.{EndsWell, EndsBy};
 
 use crate::board::Board;
 use crate::let_go::let_go;
+use crate::tasks::task_tile;
 use crate::ticket::{Claim, Ticket};
 use flow_task::FlowKit;
 use std::alloc::{AllocError, Global};
 use std::sync::Arc;
 use task_tiles::Tile;
-use tile_tasks::run_task;
 
 // The tile of a held task that is no transport's.
 fn made<K: FlowKit>(
@@ -29,16 +29,14 @@ fn made<K: FlowKit>(
 {
     let mut tiles = Vec::new(alloc);
     board.inputs_into(ticket, &mut tiles)?;
-    let tile = run_task(
+    let tile = task_tile(
         alloc,
-        board.plan().plan(),
-        board.plan().span(),
+        board.plan(),
         board.program(),
         board.known(),
         ticket.task,
         tiles.as_slice(),
     )?;
-    let tile = Arc::new(alloc, tile)?;
     Ok(tile)
 }
 

@@ -2,13 +2,8 @@
 
 ghost use Rattle.std.specs.Prelude.{◌≡◌, IfOk, MatchBool, OnErr, OnOk, None, Some, false, true};
 ghost use Rattle.std.specs.Arc.{arc_value};
-ghost use Rattle.std.specs.Option.{IsSome, IsSomeAnd, option_map};
+ghost use Rattle.std.specs.Option.{IsSome, IsSomeAnd};
 ghost use Rattle.core_model.specs.declared.step.Step.TheVariants.{PutDown as PutDownStep};
-ghost use Rattle.border_channel.specs.Locals.{local_part};
-ghost use Rattle.border_channel.specs.Outbound.{next_due, next_message};
-ghost use Rattle.border_channel.specs.Settled.{all_settled};
-ghost use Rattle.drain_meaning.specs.Equations.{orient_of, transport_of};
-ghost use Rattle.flow_task.specs.Works.{CanAccept, accepted, marked};
 ghost use Rattle.plan_graph.specs.PlanGraphs.{graph_of};
 ghost use Rattle.task_tiles.specs.FlowTiles.{IsFlowBegun};
 ghost use Rattle.task_board.specs.Boards.{HoldsTask, IsLegal, IsTileFor, state_of};
@@ -19,77 +14,13 @@ ghost use Rattle.task_board.specs.inside.Driven.{EndsWell, EndsBy, GoesOn, Makes
 
 use crate::board::Board;
 use crate::let_go::let_go;
+use crate::tasks::task_work;
 use crate::ticket::Ticket;
-use border_channel::Message;
 use flow_task::FlowKit;
 use std::alloc::{AllocError, Global};
 use std::sync::Arc;
 use task_tiles::Tile;
-use tile_map::Part;
-use tile_tasks::{begin_flow, settled_works_give_their_tiles};
-
-// ---- the work of a ticket
-
-// The next message.
-fn next_of<K: FlowKit>(kit: K, ticket: &Ticket<K>) -> Option<Message>
-    requires { IsSome ticket.now.work }
-    ensures { IsSomeAnd (work_in K.work_of ticket.now) (λ w. result ≡ next_message (transport_of w.which) w.of w.sent) }
-{
-    match &ticket.work {
-        Some(work) => kit.next_out(work),
-        None => unreachable!(),
-    }
-}
-
-// Marks an edge as sent.
-fn mark<K: FlowKit>(kit: K, ticket: &mut Ticket<K>, edge: u32)
-    requires { IsSomeAnd (work_in K.work_of ticket.old) (λ w. next_due (orient_of w.which) w.of w.sent ≡ Some edge) }
-    ensures worker { ticket.new.worker ≡ ticket.old.worker }
-    ensures task { ticket.new.task ≡ ticket.old.task }
-    ensures work { work_in K.work_of ticket.new ≡ option_map (λ w. marked w edge) (work_in K.work_of ticket.old) }
-{
-    match &mut ticket.work {
-        Some(work) => kit.mark_sent(work, edge),
-        None => unreachable!(),
-    }
-}
-
-// Accepts a message.
-fn accept<K: FlowKit>(kit: K, ticket: &mut Ticket<K>, message: Message)
-    requires { IsSomeAnd (work_in K.work_of ticket.old) (λ w. CanAccept (orient_of w.which) w.of message) }
-    ensures worker { ticket.new.worker ≡ ticket.old.worker }
-    ensures task { ticket.new.task ≡ ticket.old.task }
-    ensures work { work_in K.work_of ticket.new ≡ option_map (λ w. accepted w message) (work_in K.work_of ticket.old) }
-{
-    match &mut ticket.work {
-        Some(work) => kit.accept(work, message),
-        None => unreachable!(),
-    }
-}
-
-// Whether all cells are settled.
-fn is_settled<K: FlowKit>(kit: K, ticket: &Ticket<K>) -> bool
-    requires { IsSome ticket.now.work }
-    ensures { IsSomeAnd (work_in K.work_of ticket.now) (λ w. result ≡ all_settled (orient_of w.which) w.of) }
-{
-    match &ticket.work {
-        Some(work) => kit.is_settled(work),
-        None => unreachable!(),
-    }
-}
-
-// The results of the tile.
-fn finish<K: FlowKit>(kit: K, alloc: Global, ticket: &Ticket<K>) -> Result<Part, AllocError>
-    requires { IsSomeAnd (work_in K.work_of ticket.now) IsAtItsEnd }
-    ensures { IfOk result (λ part. IsSomeAnd (work_in K.work_of ticket.now) (λ w. part ≡ local_part (transport_of w.which) w.of)) }
-{
-    match &ticket.work {
-        Some(work) => kit.finish(alloc, work),
-        None => unreachable!(),
-    }
-}
-
-// ---- on a board
+use tile_tasks::settled_works_give_their_tiles;
 
 impl<K: FlowKit> Board<K> {
     // The work of a held task of a transport that was not begun.
@@ -100,18 +31,13 @@ impl<K: FlowKit> Board<K> {
     {
         let mut tiles = Vec::new(alloc);
         self.inputs_into(ticket, &mut tiles)?;
-        let task = ticket.task;
-        let work = begin_flow(
+        let work = task_work(
             alloc,
-            &self.kit,
-            self.plan.plan(),
-            self.plan.span(),
+            self.kit,
+            &self.plan,
             &self.program,
             &self.known,
-            self.plan.edges(task),
-            self.plan.edges_into(task),
-            self.plan.edges_out_of(task),
-            task,
+            ticket.task,
             tiles.as_slice(),
         )?;
         Ok(work)
@@ -142,12 +68,12 @@ impl<K: FlowKit> Board<K> {
         ensures legal { IsLegal self.new }
     {
         let _workers = self.workers();
-        match next_of(self.kit(), ticket) {
+        match ticket.next_out(self.kit()) {
             None => false,
             Some(message) => {
                 let edge = message.edge;
                 self.send(ticket, message);
-                mark(self.kit(), ticket, edge);
+                ticket.mark_sent(self.kit(), edge);
                 true
             }
         }
@@ -163,7 +89,7 @@ impl<K: FlowKit> Board<K> {
         match self.take(ticket) {
             None => false,
             Some(message) => {
-                accept(self.kit(), ticket, message);
+                ticket.accept(self.kit(), message);
                 true
             }
         }
@@ -188,7 +114,7 @@ impl<K: FlowKit> Board<K> {
         requires none { SendsNone K.work_of ticket.now }
         ensures { MatchBool result (IsSomeAnd (work_in K.work_of ticket.now) IsAtItsEnd) (IsSomeAnd (work_in K.work_of ticket.now) HasToWait) }
     {
-        is_settled(self.kit, ticket)
+        ticket.is_settled(self.kit)
     }
 
     // The tile of a ticket's task, whose work is at its end.
@@ -198,7 +124,7 @@ impl<K: FlowKit> Board<K> {
         ensures { IfOk result (λ tile. IsTileFor self.now ticket.now.task (arc_value tile)) }
     {
         settled_works_give_their_tiles();
-        let part = finish(self.kit, alloc, ticket)?;
+        let part = ticket.finish(self.kit, alloc)?;
         let tile = Arc::new(alloc, Tile::of_part(part))?;
         Ok(tile)
     }

@@ -15,10 +15,12 @@ mod laws;
 mod let_go;
 mod looks;
 mod noted;
+mod tasks;
 mod ticket;
 mod unread;
 
 pub use board::Board;
 pub use jobs::{BoardPlan, ClaimTask, TakeOrPark};
 pub use laws::good_tickets_stay_good;
+pub use tasks::{task_tile, task_work};
 pub use ticket::{Claim, Ticket, Waiting};

@@ -1,5 +1,5 @@
 -- A board on which a holder goes on with its task. Words of private contracts.
-use Rattle.std.specs.Prelude.{◌≡◌, ◌⊎◌, ℕ, ◌<◌, List, ◌++◌, length, None, Option}
+use Rattle.std.specs.Prelude.{◌≡◌, ◌⊎◌, ℕ, ◌<◌, List, length, None}
 use Rattle.std.specs.Option.{IsSome, IsSomeAnd}
 use Rattle.core_model.specs.declared.step.Step.{Step}
 use Rattle.core_model.specs.declared.step.Step.TheVariants.{Park, Publish}

@@ -1,4 +1,4 @@
-use Rattle.std.proofs.Common.{◌≡◌, ◌∙◌, ℕ, ap, subst, sym}
+use Rattle.std.proofs.Common.{◌∙◌, ℕ, ap, subst}
 use Rattle.core_model.specs.declared.step.Step.TheVariants.{Claim, PutDown}
 use Rattle.task_board.specs.Boards.{BoardValue, IsLegal, board_with_step, state_of}
 use Rattle.task_board.specs.inside.Driven.{EndsWell, EndsBy}
