@@ -4,12 +4,13 @@ use Rattle.std.specs.Prelude.{OnErr, OnOk, Result}
 use Rattle.core_model.specs.declared.step.Step.{Step}
 use Rattle.core_model.specs.declared.step.Step.TheVariants.{Claim, Park, Publish, PutDown}
 use Rattle.core_model.specs.Cores.{Core, Status, held, opening, parked, published, ready, upd}
-use Rattle.core_model.specs.Steps.{effect}
+use Rattle.core_model.specs.Steps.{effect, worker_of}
 use Rattle.core_model.proofs.Callers.{after_snoc, legal_rest, upd_cases, upd_other}
 use Rattle.plan_graph.specs.PlanGraphs.{graph_of, IsPlan, PlanGraphValue}
 use Rattle.task_board.specs.Boards.{BoardValue, Continues, IsFinished, IsLegal, NobodyHolds, board_with_step, state_of}
 use Rattle.task_board.specs.Tickets.{board_with_steps}
-use Rattle.task_board.specs.inside.Driven.{EndsWell, EndsBy, IsWorkedOn}
+use Rattle.task_board.specs.Holders.{IsWorkedOn}
+use Rattle.task_board.specs.inside.Driven.{EndsWell, EndsBy}
 use Rattle.task_board.specs.inside.Held.{steps_at_most}
 use Rattle.task_board.proofs.BoardLemmas.{claimable_unpublished}
 use Rattle.task_board.proofs.GoingLemmas.{few_steps, worked_none, worked_plan}
@@ -25,13 +26,13 @@ err_more (Ok x) f h = h
 err_more (Err e) f h = f h
 
 pub ends_now : (b c : BoardValue) (x : Step) → c ≡ board_with_step b x → EndsBy b c x
-ends_now b c x is = record { last = b; worked = worked_none b; is = is }
+ends_now b c x is = record { last = b; worked = worked_none (worker_of x) b; is = is }
 
 -- a step of the same worker on the same task, after the board was worked on
-pub ends_by : (f : ℕ → ℕ → Step) (a b c : BoardValue) (w t v u : ℕ) → IsWorkedOn a b → v ≡ w → u ≡ t → c ≡ board_with_step b (f v u) → EndsBy a c (f w t)
-ends_by f a b c w t v u on worker task is = record {
+pub ends_by : (f : ℕ → ℕ → Step) (a b c : BoardValue) (w t v u : ℕ) → worker_of (f w t) ≡ w → IsWorkedOn w a b → v ≡ w → u ≡ t → c ≡ board_with_step b (f v u) → EndsBy a c (f w t)
+ends_by f a b c w t v u own on worker task is = record {
   last = b;
-  worked = on;
+  worked = subst (λ (k : ℕ). IsWorkedOn k a b) (sym own) on;
   is = is ∙ (ap (λ (k : ℕ). board_with_step b (f k u)) worker ∙ ap (λ (k : ℕ). board_with_step b (f w k)) task);
 }
 

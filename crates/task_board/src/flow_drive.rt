@@ -10,7 +10,8 @@ ghost use Rattle.task_board.specs.Boards.{HoldsTask, IsLegal, IsTileFor, state_o
 ghost use Rattle.task_board.specs.Claims.{NoMessageFor};
 ghost use Rattle.task_board.specs.Messages.{HasToWait, IsAtItsEnd};
 ghost use Rattle.task_board.specs.Tickets.{IsGoodTicket, work_in};
-ghost use Rattle.task_board.specs.inside.Driven.{EndsWell, EndsBy, GoesOn, MakesStep, SendsNone, StaysSo};
+ghost use Rattle.task_board.specs.Holders.{GoesOn};
+ghost use Rattle.task_board.specs.inside.Driven.{EndsWell, EndsBy, MakesStep, SendsNone, StaysSo};
 
 use crate::board::Board;
 use crate::let_go::let_go;
@@ -117,8 +118,8 @@ impl<K: FlowKit> Board<K> {
         ticket.is_settled(self.kit)
     }
 
-    // The tile of a ticket's task, whose work is at its end.
-    fn finished(&self, alloc: Global, ticket: &Ticket<K>) -> Result<Arc<Tile>, AllocError>
+    /// The tile of a ticket's task, whose work is at its end.
+    pub fn finished(&self, alloc: Global, ticket: &Ticket<K>) -> Result<Arc<Tile>, AllocError>
         requires good { IsGoodTicket K.work_of self.now ticket.now }
         requires end { IsSomeAnd (work_in K.work_of ticket.now) IsAtItsEnd }
         ensures { IfOk result (λ tile. IsTileFor self.now ticket.now.task (arc_value tile)) }
@@ -127,6 +128,27 @@ impl<K: FlowKit> Board<K> {
         let part = ticket.finish(self.kit, alloc)?;
         let tile = Arc::new(alloc, Tile::of_part(part))?;
         Ok(tile)
+    }
+
+    /// Works on a held task of a transport whose work was begun: sends what the work has to send and takes what waits for it, in
+    /// turn. True: the work is at its end. False: it has to wait, and no message waits for it.
+    pub fn work_through(&mut self, ticket: &mut Ticket<K>) -> bool
+        requires good { IsGoodTicket K.work_of self.old ticket.old }
+        requires begun { IsSome ticket.old.work }
+        ensures goes { GoesOn K.work_of self.old self.new ticket.old ticket.new }
+        ensures ends { MatchBool result (IsSomeAnd (work_in K.work_of ticket.new) IsAtItsEnd) (IsSomeAnd (work_in K.work_of ticket.new) HasToWait × NoMessageFor self.new ticket.new.task) }
+        ensures legal { IsLegal self.new }
+    {
+        let _plan = self.plan();
+        loop {
+            self.send_all(ticket);
+            if self.is_at_its_end(ticket) {
+                return true;
+            }
+            if !self.take_next(ticket) {
+                return false;
+            }
+        }
     }
 
     // Goes on with a ticket's work until its task is published, or no message waits for it and it is parked; or puts it down
@@ -139,19 +161,13 @@ impl<K: FlowKit> Board<K> {
         ensures err { OnErr result (EndsBy self.old self.new (PutDownStep ticket.worker ticket.task)) }
         ensures legal { IsLegal self.new }
     {
-        let _plan = self.plan();
         let mut ticket = ticket;
-        loop {
-            self.send_all(&mut ticket);
-            if self.is_at_its_end(&ticket) {
-                let made = self.finished(alloc, &ticket);
-                return let_go(self, ticket, made);
-            }
-            if !self.take_next(&mut ticket) {
-                self.park(ticket);
-                return Ok(());
-            }
+        if self.work_through(&mut ticket) {
+            let made = self.finished(alloc, &ticket);
+            return let_go(self, ticket, made);
         }
+        self.park(ticket);
+        Ok(())
     }
 
     // Works on a held task of a transport.

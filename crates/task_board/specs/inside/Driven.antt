@@ -1,41 +1,27 @@
 -- A board on which a holder goes on with its task. Words of private contracts.
-use Rattle.std.specs.Prelude.{◌≡◌, ◌⊎◌, ℕ, ◌<◌, List, length, None}
-use Rattle.std.specs.Option.{IsSome, IsSomeAnd}
+use Rattle.std.specs.Prelude.{◌≡◌, ◌⊎◌, ℕ, ◌<◌, length, None}
+use Rattle.std.specs.Option.{IsSomeAnd}
 use Rattle.core_model.specs.declared.step.Step.{Step}
 use Rattle.core_model.specs.declared.step.Step.TheVariants.{Park, Publish}
+use Rattle.core_model.specs.Steps.{worker_of}
 use Rattle.drain_meaning.specs.declared.op.FlowOp.{FlowOp}
 use Rattle.drain_meaning.specs.Equations.{orient_of}
 use Rattle.border_channel.specs.Outbound.{next_due}
 use Rattle.flow_task.specs.Works.{TileWork}
 use Rattle.task_board.specs.declared.ticket.Ticket.{Ticket}
-use Rattle.task_board.specs.Boards.{BoardValue, board_with_step, state_of}
-use Rattle.task_board.specs.Tickets.{IsGoodTicket, board_with_steps, work_in}
-
--- The second board is the first with some steps more, after which each task stands where it did, and who had put none down has put none
--- down.
-pub record IsWorkedOn (b c : BoardValue) : Type 0 where
-  pub more : List Step
-  pub is : c ≡ board_with_steps b more
-  pub status : (state_of c).status ≡ (state_of b).status
-  pub puts : (state_of c).has_put_down ≡ (state_of b).has_put_down
+use Rattle.task_board.specs.Boards.{BoardValue, board_with_step}
+use Rattle.task_board.specs.Tickets.{work_in}
+use Rattle.task_board.specs.Holders.{GoesOn, IsWorkedOn}
 
 -- the board was worked on, and then this step was made
 pub record EndsBy (b c : BoardValue) (x : Step) : Type 0 where
   pub last : BoardValue
-  pub worked : IsWorkedOn b last
+  pub worked : IsWorkedOn (worker_of x) b last
   pub is : c ≡ board_with_step last x
 
 -- the board was worked on, and then the task was published, or parked
 abbrev pub EndsWell : BoardValue → BoardValue → ℕ → ℕ → Type 0
 EndsWell b c w t = EndsBy b c (Publish w t) ⊎ EndsBy b c (Park w t)
-
--- the board was worked on by a task's holder, whose ticket is good and has a work
-pub record GoesOn {K W : Type 0} (work_of : W → TileWork FlowOp) (b c : BoardValue) (ticket next : Ticket K W) : Type 0 where
-  pub worked : IsWorkedOn b c
-  pub worker : next.worker ≡ ticket.worker
-  pub task : next.task ≡ ticket.task
-  pub good : IsGoodTicket work_of c next
-  pub begun : IsSome next.work
 
 -- and it made a step
 abbrev pub MakesStep : {K W : Type 0} → (W → TileWork FlowOp) → BoardValue → BoardValue → Ticket K W → Ticket K W → Type 0

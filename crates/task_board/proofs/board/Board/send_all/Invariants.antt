@@ -1,5 +1,5 @@
 use Rattle.std.proofs.Common.{◌-◌, length}
-use Rattle.task_board.specs.inside.Driven.{GoesOn}
+use Rattle.task_board.specs.Holders.{GoesOn}
 use Rattle.task_board.specs.inside.Held.{steps_at_most}
 use Rattle.task_board.proofs.board.Board.send_all.Given as goal
 

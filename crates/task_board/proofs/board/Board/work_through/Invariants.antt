@@ -1,7 +1,7 @@
 use Rattle.std.proofs.Common.{◌-◌, length}
-use Rattle.task_board.specs.inside.Driven.{GoesOn}
+use Rattle.task_board.specs.Holders.{GoesOn}
 use Rattle.task_board.specs.inside.Held.{steps_at_most}
-use Rattle.task_board.proofs.board.Board.go_on.Given as goal
+use Rattle.task_board.proofs.board.Board.work_through.Given as goal
 
 abbrev pub invariant-loop-self : goal.invariant-loop-self
 invariant-loop-self g l = GoesOn g.K.FlowKit.work_of l.initial.self l.self l.initial.ticket l.ticket
