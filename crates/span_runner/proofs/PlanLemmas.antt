@@ -1,5 +1,7 @@
 -- Plans of spans.
-use Rattle.std.proofs.Common.{◌≡◌, ◌∙◌, ap, sym, subst}
+use Rattle.std.proofs.Common.{◌≡◌, ◌∙◌, ap, refl, sym, subst}
+use Rattle.std.specs.Arc.{arc_value}
+use Rattle.std.specs.Prelude.{ℕ}
 use Rattle.map_meaning.specs.Programs.{IsWellFormed}
 use Rattle.map_meaning.specs.Limits.{most_block}
 use Rattle.map_meaning.specs.Spans.{IsSpan, Knows}
@@ -7,10 +9,13 @@ use Rattle.map_meaning.specs.declared.known.Known.{Known}
 use Rattle.map_meaning.specs.declared.known.Span.{Span}
 use Rattle.map_meaning.specs.declared.program.Program.{Program}
 use Rattle.plan_graph.specs.PlanGraphs.{IsPlanOf, PlanGraphValue}
+use Rattle.span_runner.specs.SpanCalls.{IsBoardOf, IsSpanTiling}
+use Rattle.span_runner.specs.declared.span_call.SpanCall.{SpanCall}
+use Rattle.task_board.specs.Boards.{BoardValue, new_board}
 use Rattle.task_graph.specs.Plans.{PlanValue, span_plan}
 use Rattle.task_tiles.specs.TaskTiles.{IsPlanned}
 use Rattle.tile_map.specs.declared.tiling.Tiling.{Tiling}
-use Rattle.lone_runner.proofs.SpanLemmas.{plan_tiling}
+use Rattle.span_runner.proofs.SpanLemmas.{plan_tiling}
 
 -- the plan is that of its span
 pub is_planned : (p : PlanGraphValue) (s : Span) (program : Program) (known : Known) (g : Tiling) →
@@ -26,3 +31,11 @@ is_planned p s program known g formed is knows rows cols span of =
       rows = ap (λ (t : Tiling). t.rows) tiling ∙ rows;
       cols = ap (λ (t : Tiling). t.cols) tiling ∙ cols;
     }
+
+-- the new board of a plan of the span is one of the span
+pub new_board_of : (call : SpanCall) (tile_rows tile_cols workers : ℕ) (g : Tiling) (p : PlanGraphValue) (b : BoardValue) →
+    IsSpanTiling call tile_rows tile_cols g → IsPlanOf (arc_value call.program) (arc_value call.known) g p → p.span ≡ call.span →
+    b ≡ new_board p (arc_value call.program) (arc_value call.known) workers → IsBoardOf call tile_rows tile_cols workers b
+new_board_of call tile_rows tile_cols workers g p b tiles of span is =
+    subst (λ (x : BoardValue). IsBoardOf call tile_rows tile_cols workers x) (sym is)
+    (record { tiling = g; tiles = tiles; planned = of; span = span; is = refl })
