@@ -20,6 +20,8 @@ use std::alloc::{AllocError, Global};
 use std::env::{self, Args};
 use std::io::{self, ErrorKind};
 use std::process::ExitCode;
+use std::sync::Wait;
+use std::thread::Threads;
 
 /// The status where the words cannot be had, and not for want of memory.
 const NO_WORDS: u8 = 13;
@@ -62,7 +64,8 @@ fn begins_plain(words: &[Word]) -> bool
 }
 
 // Does what the words ask for, in the folder, and gives the status of the answer.
-fn run_words<F: Folder, S: Sink, G: Gate>(
+fn run_words<F: Folder, S: Sink, G: Gate + Sync, R: Threads + Wait + Sync>(
+    rt: &R,
     alloc: Global,
     words: &[Word],
     folder: &mut F,
@@ -74,13 +77,14 @@ fn run_words<F: Folder, S: Sink, G: Gate>(
     if begins_plain(words) {
         status(&lue_plain(alloc, words, folder, out))
     } else {
-        status(&lue_main(alloc, words, folder, out, gate))
+        status(&lue_main(rt, alloc, words, folder, out, gate))
     }
 }
 
 // What the program does: of the words that the system gives or cannot give, in this folder, at this sink and through this
 // gate; with the status of the answer.
-fn run<F: Folder, S: Sink, G: Gate>(
+fn run<F: Folder, S: Sink, G: Gate + Sync, R: Threads + Wait + Sync>(
+    rt: &R,
     alloc: Global,
     args: io::Result<Args>,
     folder: &mut F,
@@ -95,7 +99,7 @@ fn run<F: Folder, S: Sink, G: Gate>(
 {
     match args {
         Ok(args) => match words_of(alloc, args) {
-            Ok(words) => run_words(alloc, &words, folder, out, gate),
+            Ok(words) => run_words(rt, alloc, &words, folder, out, gate),
             Err(_) => status(&Ended::Memory),
         },
         Err(error) => without_words(error.kind()),
@@ -104,6 +108,7 @@ fn run<F: Folder, S: Sink, G: Gate>(
 
 fn main(rt: HostRuntime) -> ExitCode {
     ExitCode::from(run(
+        &rt,
         rt.alloc(),
         env::args(&rt),
         &mut FileFolder::here(&rt),

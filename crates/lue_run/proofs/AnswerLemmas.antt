@@ -1,5 +1,5 @@
 -- What a call answers, from what it came to and what it told of this.
-use Rattle.std.proofs.Common.{◌⊎◌, ℕ, inl, inr, ◌≡◌, refl, sym, ap, subst, ◌∙◌, arith}
+use Rattle.std.proofs.Common.{◌⊎◌, ℕ, ◌≤◌, inl, inr, ◌≡◌, refl, sym, ap, subst, ◌∙◌, arith}
 use Rattle.std.specs.Prelude.{Option, None}
 use Rattle.outside_io.specs.State.{FolderState, Rose, SinkState, WroteFront}
 use Rattle.outside_io.specs.Counts.{raised}
@@ -14,7 +14,7 @@ use Rattle.lue_run.specs.Lines.{line_of, status_of}
 use Rattle.lue_run.specs.Words.{Command}
 use Rattle.lue_run.specs.Course.{IsCountBy, course}
 use Rattle.lue_run.specs.Answers.{Call, CameOut, HasLine, IfTooManyTold, IsComplete, IsUsage, IsShown, IsVerdict, IsVerdictKind, IsVerdictOver, LineIsWritten, KeepsCounts, NoFault, WroteWhole}
-use Rattle.lue_run.specs.inside.Top.{AnswersSo, Tells}
+use Rattle.lue_run.specs.inside.Top.{AnswersSo, ComesTo, Tells}
 
 -- a count that was raised rose
 rose_by : (before now : ℕ) → now ≡ raised before → Rose before now
@@ -142,7 +142,8 @@ module _ (call : Call) (answer : Ended) (a : AnswersSo call.command call.before 
   pub tasks_told : IfTooManyTold answer (IsCountBy call.command)
   tasks_told = told_so (IsCountBy call.command) a.end answer call.sink_before call.sink_after a.comes.tasks a.tells
 
--- what is answered to a command that is asked for, is answered to the one that the words give
-pub as_asked : (asked command : Option Command) (old new : FolderState) (out_old out_new : SinkState) (answer : Ended) → asked ≡ command →
-    AnswersSo asked old new out_old out_new answer → AnswersSo command old new out_old out_new answer
-as_asked asked command old new out_old out_new answer same a = subst (λ given. AnswersSo given old new out_old out_new answer) same a
+-- what is answered to a command that is asked for, and then told, is answered to the one that the words give
+pub as_asked : (asked command : Option Command) (old new : FolderState) (out_old out_new : SinkState) (end answer : Ended) → asked ≡ command →
+    ComesTo asked old new end → Tells end out_old out_new answer → out_old.faults ≤ out_new.faults → AnswersSo command old new out_old out_new answer
+as_asked asked command old new out_old out_new end answer same comes tells later =
+    subst (λ given. AnswersSo given old new out_old out_new answer) same (record { end = end; comes = comes; tells = tells; later = later })

@@ -1,9 +1,9 @@
 ghost use Rattle.std.specs.Prelude.{◌≡◌, ◌<◌, ◌≤◌, IfSome};
 ghost use Rattle.std.specs.Option.{option_map};
 ghost use Rattle.lue_run.specs.Words.{command_named, has_no_leading_zero, main_command, number_named, plain_command, positive_named, tiles_named};
-ghost use Rattle.lue_run.specs.inside.Asked.{command_asked};
+ghost use Rattle.lue_run.specs.inside.Asked.{command_asked, tiles_command};
 
-use crate::asked::{Asked, Tiles};
+use crate::asked::{Asked, AskedTiles, Tiles};
 use cell_values::Word;
 use text_base::{is_file_word, whole_number};
 
@@ -72,8 +72,13 @@ fn asked_by<'a>(command: &[u8], operand: &'a Word) -> Option<Asked<'a>>
 }
 
 // The run by tiles that four words ask for: of which script, by which rows and columns of a tile, with how many workers.
-fn tiles_asked<'a>(script: &'a Word, rows: &[u8], cols: &[u8], workers: &[u8]) -> Option<Asked<'a>>
-    ensures { option_map command_asked result ≡ tiles_named script.now rows.now cols.now workers.now }
+fn tiles_asked<'a>(
+    script: &'a Word,
+    rows: &[u8],
+    cols: &[u8],
+    workers: &[u8],
+) -> Option<AskedTiles<'a>>
+    ensures { option_map tiles_command result ≡ tiles_named script.now rows.now cols.now workers.now }
 {
     if !is_file_word(script.bytes()) {
         return None;
@@ -81,14 +86,14 @@ fn tiles_asked<'a>(script: &'a Word, rows: &[u8], cols: &[u8], workers: &[u8]) -
     let rows = positive_named(rows, LONGEST_TILE_SIDE)?;
     let cols = positive_named(cols, LONGEST_TILE_SIDE)?;
     let workers = positive_named(workers, MOST_WORKERS)?;
-    Some(Asked::ByTiles(
+    Some(AskedTiles {
         script,
-        Tiles {
+        tiles: Tiles {
             rows,
             cols,
             workers,
         },
-    ))
+    })
 }
 
 /// What the words ask of `lue_plain`, where they are one of its commands.
@@ -102,8 +107,8 @@ pub fn plain_asked(words: &[Word]) -> Option<Asked<'_>>
 }
 
 /// What the words ask of `lue_main`, where they are one of its commands.
-pub fn main_asked(words: &[Word]) -> Option<Asked<'_>>
-    ensures { option_map command_asked result ≡ main_command words.now }
+pub fn main_asked(words: &[Word]) -> Option<AskedTiles<'_>>
+    ensures { option_map tiles_command result ≡ main_command words.now }
 {
     match words {
         [command, script, rows, cols, workers] if command.bytes() == b"run".as_slice() => {

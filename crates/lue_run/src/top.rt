@@ -6,10 +6,10 @@ ghost use Rattle.run_session.specs.Ends.{session_outcome};
 ghost use Rattle.lue_run.specs.Ends.{OfScript, answer_for};
 ghost use Rattle.lue_run.specs.Course.{IsCountBy};
 ghost use Rattle.lue_run.specs.Words.{main_command, plain_command};
-ghost use Rattle.lue_run.specs.inside.Asked.{command_asked};
-ghost use Rattle.lue_run.specs.inside.Top.{AnswersSo, ComesTo, Tells};
+ghost use Rattle.lue_run.specs.inside.Asked.{command_asked, tiles_command};
+ghost use Rattle.lue_run.specs.inside.Top.{ComesTo, IsEnd, Tells};
 
-use crate::asked::Asked;
+use crate::asked::{Asked, AskedTiles};
 use crate::command::{main_asked, plain_asked};
 use crate::ended::Ended;
 use crate::exit_status::status;
@@ -21,6 +21,8 @@ use cell_values::Word;
 use outside_io::{Folder, Gate, Sink};
 use run_session::SessionEnd;
 use std::alloc::Global;
+use std::sync::Wait;
+use std::thread::Threads;
 
 // The answer for the end of a script.
 fn ended(end: SessionEnd) -> Ended
@@ -41,23 +43,51 @@ fn ended(end: SessionEnd) -> Ended
     }
 }
 
-// Does what is wanted.
+// Does what is wanted over whole maps.
 fn fulfil<F: Folder>(alloc: Global, wanted: Asked<'_>, folder: &mut F) -> Ended
     ensures { ComesTo (Some (command_asked wanted.entry)) (F.state folder.old) (F.state folder.new) result }
 {
     match wanted {
         Asked::Plain(name) => ended(run_plain(alloc, name, folder)),
         Asked::Make(number) => run_make(alloc, number, folder),
-        Asked::ByTiles(name, tiles) => ended(run_tiles(alloc, name, tiles, folder)),
     }
 }
 
-// Does what is asked for, if anything is.
+// Does what is asked for over whole maps, if anything is.
 fn come_to<F: Folder>(alloc: Global, asked: Option<Asked<'_>>, folder: &mut F) -> Ended
     ensures { ComesTo (option_map command_asked asked.entry) (F.state folder.old) (F.state folder.new) result }
 {
     match asked {
         Some(wanted) => fulfil(alloc, wanted, folder),
+        None => Ended::Usage,
+    }
+}
+
+// Runs the script by tiles.
+fn fulfil_by_tiles<F: Folder, G: Gate + Sync, R: Threads + Wait + Sync>(
+    rt: &R,
+    alloc: Global,
+    wanted: AskedTiles<'_>,
+    folder: &mut F,
+    gate: &G,
+) -> Ended
+    ensures { ComesTo (Some (tiles_command wanted.entry)) (F.state folder.old) (F.state folder.new) result }
+{
+    ended(run_tiles(rt, alloc, wanted.script, wanted.tiles, folder, gate))
+}
+
+// Runs a script by tiles, if one is asked for.
+fn come_to_by_tiles<F: Folder, G: Gate + Sync, R: Threads + Wait + Sync>(
+    rt: &R,
+    alloc: Global,
+    asked: Option<AskedTiles<'_>>,
+    folder: &mut F,
+    gate: &G,
+) -> Ended
+    ensures { ComesTo (option_map tiles_command asked.entry) (F.state folder.old) (F.state folder.new) result }
+{
+    match asked {
+        Some(wanted) => fulfil_by_tiles(rt, alloc, wanted, folder, gate),
         None => Ended::Usage,
     }
 }
@@ -77,16 +107,13 @@ fn tell<S: Sink>(end: Ended, out: &mut S) -> Ended
     }
 }
 
-// Does what is asked for, and writes one line.
-fn answer<F: Folder, S: Sink>(
-    alloc: Global,
-    asked: Option<Asked<'_>>,
-    folder: &mut F,
-    out: &mut S,
-) -> Ended
-    ensures { AnswersSo (option_map command_asked asked.entry) (F.state folder.old) (F.state folder.new) (S.state out.old) (S.state out.new) result }
+// Writes the line of an end, which has none for want of memory.
+fn told<S: Sink>(end: Ended, out: &mut S) -> Ended
+    requires { IsEnd end }
+    ensures tells { Tells end (S.state out.old) (S.state out.new) result }
+    ensures later { (S.state out.old).faults ≤ (S.state out.new).faults }
 {
-    match come_to(alloc, asked, folder) {
+    match end {
         Ended::Memory => Ended::Memory,
         end => tell(end, out),
     }
@@ -121,7 +148,8 @@ pub fn lue_plain<F: Folder, S: Sink>(
     // Counts never fall.
     ensures counts { KeepsCounts (call_of (plain_command words.now) (F.state folder.old) (F.state folder.new) (S.state out.old) (S.state out.new)) }
 {
-    answer(alloc, plain_asked(words), folder, out)
+    let end = come_to(alloc, plain_asked(words), folder);
+    told(end, out)
 }
 
 /// Does what the words ask for, and writes one line to the sink: `run SCRIPT TILEROWS TILECOLS WORKERS` runs a script by tiles of
@@ -130,12 +158,13 @@ pub fn lue_plain<F: Folder, S: Sink>(
 /// Files, their order and the end are those that `plain` has, for every size of the tiles and every number of workers, but for a
 /// script with too many tasks: once its inputs are read, it ends with their number. The tasks are done one after the other,
 /// whatever the number of workers, and no task passes the gate.
-pub fn lue_main<F: Folder, S: Sink, G: Gate>(
+pub fn lue_main<F: Folder, S: Sink, G: Gate + Sync, R: Threads + Wait + Sync>(
+    rt: &R,
     alloc: Global,
     words: &[Word],
     folder: &mut F,
     out: &mut S,
-    _gate: &G,
+    gate: &G,
 ) -> Ended
     // An answer that is no fault of the outside and not want of memory is the verdict, with all outputs put.
     ensures verdict { IsVerdictKind result
@@ -155,5 +184,6 @@ pub fn lue_main<F: Folder, S: Sink, G: Gate>(
     // Counts never fall.
     ensures counts { KeepsCounts (call_of (main_command words.now) (F.state folder.old) (F.state folder.new) (S.state out.old) (S.state out.new)) }
 {
-    answer(alloc, main_asked(words), folder, out)
+    let end = come_to_by_tiles(rt, alloc, main_asked(words), folder, gate);
+    told(end, out)
 }

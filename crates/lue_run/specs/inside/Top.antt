@@ -22,6 +22,10 @@ pub record ComesTo (command : Option Command) (old new : FolderState) (end : End
   pub usage : end ≡ Usage → command ≡ None
   pub tasks : IfTooManyTold end (IsCountBy command)
 
+-- the end of some call, before its line
+abbrev pub IsEnd : Ended → Type 0
+IsEnd end = (outcome : RunOutcome CourseEnd) × (end ≡ answer_for outcome)
+
 -- the line of an end could not be written whole
 pub record Unwritten (end : Ended) (old new : SinkState) (instead : ℕ) : Type 0 where
   pub has_line : HasLine end

@@ -9,8 +9,8 @@ use Rattle.lue_run.specs.declared.asked.Asked.{Asked}
 use Rattle.lue_run.specs.declared.ended.Ended.{Ended}
 use Rattle.lue_run.specs.Ends.{OfScript, why_of}
 use Rattle.lue_run.specs.Answers.{IfTooManyTold}
-use Rattle.lue_run.specs.Course.{IsCountBy, course, plain_run, tiled_run}
-use Rattle.lue_run.specs.Words.{ByTiles, Plain}
+use Rattle.lue_run.specs.Course.{IsCountBy, course, plain_run}
+use Rattle.lue_run.specs.Words.{Plain}
 use Rattle.lue_run.specs.inside.Asked.{command_asked}
 use Rattle.lue_run.proofs.TaskLemmas.{ended_so, too_many_less}
 use Rattle.lue_run.proofs.top.fulfil.Goals as goal
@@ -50,27 +50,4 @@ returns-in-Make g c =
       refused = λ none. cc none;
       usage = λ is. absurd (made.made is);
       tasks = subst (λ (wanted : Asked). IfTooManyTold c.run_make.result (IsCountBy (Some (command_asked wanted)))) (sym c.in-Make.is) made.tasks;
-    }
-
-pub returns-in-ByTiles : goal.returns-in-ByTiles
-returns-in-ByTiles g c =
-    let state = g.F.Folder.state in
-    let old = state c.args.folder.now in
-    let new = state c.run_tiles.new.folder in
-    let name = c.in-ByTiles.name.now in
-    let tiles = c.in-ByTiles.tiles in
-    let end = session_outcome c.run_tiles.result in
-    let outcome = outcome_as OfScript end in
-    let by = ByTiles name tiles.rows tiles.cols tiles.workers in
-    record {
-      outcome = outcome;
-      is = c.ended-in-ByTiles.ensures.answer;
-      came = subst (λ (wanted : Asked). Meets why_of (course (Some (command_asked wanted))) old new outcome) (sym c.in-ByTiles.is)
-          (meets_end_as why why_of OfScript (λ end. refl) (tiled_run tiles.rows tiles.cols name) old new end c.run_tiles.ensures.meets);
-      untouched = λ none. cc none;
-      refused = λ none. cc none;
-      usage = λ is. absurd (c.ended-in-ByTiles.ensures.script is);
-      tasks = subst (λ (wanted : Asked). IfTooManyTold c.ended-in-ByTiles.result (IsCountBy (Some (command_asked wanted)))) (sym c.in-ByTiles.is)
-          (subst (λ (said : Ended). IfTooManyTold said (IsCountBy (Some by))) (sym c.ended-in-ByTiles.ensures.answer)
-          (ended_so (IsCountBy (Some by)) c.run_tiles.result c.run_tiles.ensures.many));
     }
