@@ -6,7 +6,9 @@ use lue_run::Ended;
 use outside_io::{CalmFolder, CalmSink};
 use std::alloc::Global;
 use std::process::Abort;
+use std::sync::Wait;
 use std::test::Fail;
+use std::thread::Threads;
 
 /// A script, the status and the line.
 type Row = (&'static str, u8, &'static str);
@@ -127,7 +129,7 @@ static SCRIPTS: [Row; 24] = [
 const NOTHING: &[File] = &[];
 
 // Each script ends so, and puts nothing.
-fn expect_refused(rt: &impl Abort, alloc: Global, rows: &[Row]) -> Result<(), Fail> {
+fn expect_refused(rt: &(impl Abort + Threads + Wait + Sync), alloc: Global, rows: &[Row]) -> Result<(), Fail> {
     for (script, answer, line) in rows {
         let case = (*script, INPUTS, *answer, *line, NOTHING);
         expect_case(rt, alloc, PUT, &case)?;
@@ -173,7 +175,7 @@ static OTHER_WORDS: [&str; 28] = [
 ];
 
 // The texts give no command: nothing is read, and nothing is put.
-fn expect_usage(rt: &impl Abort, alloc: Global, texts: &[&str]) -> Result<(), Fail> {
+fn expect_usage(rt: &(impl Abort + Threads + Wait + Sync), alloc: Global, texts: &[&str]) -> Result<(), Fail> {
     for text in texts {
         let mut folder = folder_with(alloc, THREE, INPUTS, 1)?;
         expect_end(rt, alloc, text, &mut folder, 2, "usage\n")?;
@@ -201,7 +203,7 @@ fn tells_a_script_that_is_not_there_or_too_long(rt: HostRuntime) -> Result<(), F
     expect_end(&rt, alloc, "plain m.mod", &mut folder, 4, "missing m.mod\n")?;
     hold_long(alloc, &mut folder)?;
     let mut out = CalmSink::new();
-    let Ended::TooLong(name) = end_of(alloc, "plain m.mod", &mut folder, &mut out)? else {
+    let Ended::TooLong(name) = end_of(&rt, alloc, "plain m.mod", &mut folder, &mut out)? else {
         return Err(Fail::new("another answer"));
     };
     assert_eq!(rt; name.bytes(), b"m.mod".as_slice());

@@ -4,7 +4,9 @@ use crate::files::{File, PUT, folder_with};
 use crate::runs::{expect_end, expect_puts};
 use std::alloc::Global;
 use std::process::Abort;
+use std::sync::Wait;
 use std::test::Fail;
+use std::thread::Threads;
 
 /// An example: its words, its script, its other files, its status, its line, and what it puts, in order.
 type Example = (
@@ -148,7 +150,7 @@ static STORM_RUNOFF: Example = (
 );
 
 // The run of an example ends as it says, and puts what it says.
-fn expect_example(rt: &impl Abort, alloc: Global, example: &Example) -> Result<(), Fail> {
+fn expect_example(rt: &(impl Abort + Threads + Wait + Sync), alloc: Global, example: &Example) -> Result<(), Fail> {
     let (words, script, files, answer, line, puts) = *example;
     let mut folder = folder_with(alloc, script, files, 0)?;
     expect_end(rt, alloc, words, &mut folder, answer, line)?;

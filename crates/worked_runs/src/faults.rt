@@ -12,7 +12,9 @@ use lue_run::{Ended, status};
 use outside_io::MemSink;
 use std::alloc::Global;
 use std::process::Abort;
+use std::sync::Wait;
 use std::test::Fail;
+use std::thread::Threads;
 
 /// The stack is used twice, and read once in a step.
 pub const SCRIPT: &str =
@@ -140,7 +142,7 @@ fn puts_before(model: &Model, puts: usize) -> &'static [File] {
 
 // A run in which this call of the folder fails ends so.
 fn expect_fault(
-    rt: &impl Abort,
+    rt: &(impl Abort + Threads + Wait + Sync),
     alloc: Global,
     words: &str,
     model: &Model,
@@ -154,7 +156,7 @@ fn expect_fault(
 
 // A run in which this call of the folder fails, and the write of the line too, tells the status that stood there.
 fn expect_unwritten(
-    rt: &impl Abort,
+    rt: &(impl Abort + Threads + Wait + Sync),
     alloc: Global,
     words: &str,
     model: &Model,
@@ -164,7 +166,7 @@ fn expect_unwritten(
     let mut folder = folder_with(alloc, model.0, model.1, call)?;
     let mut out = MemSink::new();
     out.fail_on(vec![in alloc; 1]?);
-    let end = end_of(alloc, words, &mut folder, &mut out)?;
+    let end = end_of(rt, alloc, words, &mut folder, &mut out)?;
     assert_eq!(rt; instead_of(&end), Some(stood), "no line at {line}");
     assert_eq!(rt;
         (status(&end), out.bytes().len()),
@@ -185,7 +187,7 @@ fn instead_of(end: &Ended) -> Option<u8> {
 // A run in which this call finds no memory ends so and writes nothing, whether the sink works or not; the call past the last
 // is not made.
 fn expect_no_memory(
-    rt: &impl Abort,
+    rt: &(impl Abort + Threads + Wait + Sync),
     alloc: Global,
     words: &str,
     model: &Model,
@@ -200,7 +202,7 @@ fn expect_no_memory(
     let mut folder = ScantFolder::new(folder_with(alloc, model.0, model.1, 0)?, call);
     let mut out = MemSink::new();
     out.fail_on(vec![in alloc; sink_fails]?);
-    let end = end_of(alloc, words, &mut folder, &mut out)?;
+    let end = end_of(rt, alloc, words, &mut folder, &mut out)?;
     assert_eq!(rt; out.bytes(), written.as_bytes(), "no memory at {line}");
     assert_eq!(rt;
         (status(&end), folder.calls),
@@ -218,7 +220,7 @@ fn expect_no_memory(
 }
 
 // Each call of a script fails in turn.
-fn expect_model(rt: &impl Abort, alloc: Global, words: &str, model: &Model) -> Result<(), Fail> {
+fn expect_model(rt: &(impl Abort + Threads + Wait + Sync), alloc: Global, words: &str, model: &Model) -> Result<(), Fail> {
     for row in model.4 {
         expect_fault(rt, alloc, words, model, row)?;
         expect_unwritten(rt, alloc, words, model, row)?;
@@ -228,7 +230,7 @@ fn expect_model(rt: &impl Abort, alloc: Global, words: &str, model: &Model) -> R
 }
 
 // Each call of each script fails in turn.
-fn expect_models(rt: &impl Abort, alloc: Global, words: &str) -> Result<(), Fail> {
+fn expect_models(rt: &(impl Abort + Threads + Wait + Sync), alloc: Global, words: &str) -> Result<(), Fail> {
     for model in &MODELS {
         expect_model(rt, alloc, words, model)?;
     }

@@ -4,7 +4,9 @@ use crate::runs::expect_end;
 use outside_io::MemFolder;
 use std::alloc::Global;
 use std::process::Abort;
+use std::sync::Wait;
 use std::test::Fail;
+use std::thread::Threads;
 
 /// A file: its name, its length, and a sum of its bytes, each of which counts 31 times as much as the one behind it, in 32
 /// bits. Both are those of the files that `bench/made_model.py` makes.
@@ -36,7 +38,7 @@ fn sum_of(bytes: &[u8]) -> u32 {
 }
 
 // The put of this number is that of this file.
-fn expect_put(rt: &impl Abort, folder: &MemFolder, number: u64, file: &Sum) -> Result<(), Fail> {
+fn expect_put(rt: &(impl Abort + Threads + Wait + Sync), folder: &MemFolder, number: u64, file: &Sum) -> Result<(), Fail> {
     let (name, length, sum) = *file;
     assert!(rt; number < folder.put_count(), "no put {number}");
     assert_eq!(rt;
@@ -51,7 +53,7 @@ fn expect_put(rt: &impl Abort, folder: &MemFolder, number: u64, file: &Sum) -> R
 }
 
 // The words make these files, and no others.
-fn expect_model(rt: &impl Abort, alloc: Global, text: &str, files: &[Sum]) -> Result<(), Fail> {
+fn expect_model(rt: &(impl Abort + Threads + Wait + Sync), alloc: Global, text: &str, files: &[Sum]) -> Result<(), Fail> {
     let mut folder = MemFolder::new(alloc);
     expect_end(rt, alloc, text, &mut folder, 0, "made files=5\n")?;
     assert_eq!(rt; folder.put_count(), files.len() as u64, "puts of {text}");
@@ -77,7 +79,7 @@ static FAULTS: [&str; 5] = [
 ];
 
 // The put behind so many fails: that is told, and nothing more is put.
-fn expect_fault(rt: &impl Abort, alloc: Global, before: u64, line: &str) -> Result<(), Fail> {
+fn expect_fault(rt: &(impl Abort + Threads + Wait + Sync), alloc: Global, before: u64, line: &str) -> Result<(), Fail> {
     let mut folder = MemFolder::new(alloc);
     folder.fail_on(vec![in alloc; before.saturating_add(1)]?);
     expect_end(rt, alloc, "make 0", &mut folder, 8, line)?;

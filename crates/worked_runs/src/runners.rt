@@ -11,7 +11,9 @@ use plain_eval::PlainRunner;
 use run_session::{SessionEnd, run_script};
 use std::alloc::Global;
 use std::process::Abort;
+use std::sync::Wait;
 use std::test::Fail;
+use std::thread::Threads;
 
 // The end of the script by a runner without memory.
 fn weak_end(alloc: Global, folder: &mut MemFolder) -> Result<SessionEnd, Fail> {
@@ -147,7 +149,7 @@ static STAGES: [Stages; 6] = [
 ];
 
 // The runner was asked for these spans.
-fn expect_asked(rt: &impl Abort, notes: &[Note], case: &Stages) {
+fn expect_asked(rt: &(impl Abort + Threads + Wait + Sync), notes: &[Note], case: &Stages) {
     assert_eq!(rt; notes.len(), case.1.len(), "runs of {}", case.0);
     for (note, (asked, drains)) in notes.iter().zip(case.1) {
         assert_eq!(rt; note.asked, *asked, "in {}", case.0);

@@ -6,7 +6,9 @@ use lue_run::{Ended, lue_main, lue_plain, status};
 use outside_io::{Folder, MemFolder, MemSink, OpenGate, Sink};
 use std::alloc::Global;
 use std::process::Abort;
+use std::sync::Wait;
 use std::test::Fail;
+use std::thread::Threads;
 
 /// A script, the files that are there, the status, the line, and what is put, in order.
 pub type Case = (
@@ -28,6 +30,7 @@ pub(crate) fn words_of(alloc: Global, text: &str) -> Result<Vec<Word>, Fail> {
 
 /// The end of the words of a text, by the top call that has such words.
 pub(crate) fn end_of<F: Folder, S: Sink>(
+    rt: &(impl Abort + Threads + Wait + Sync),
     alloc: Global,
     text: &str,
     folder: &mut F,
@@ -35,14 +38,14 @@ pub(crate) fn end_of<F: Folder, S: Sink>(
 ) -> Result<Ended, Fail> {
     let words = words_of(alloc, text)?;
     if text.starts_with("run") {
-        return Ok(lue_main(alloc, &words, folder, out, &OpenGate));
+        return Ok(lue_main(rt, alloc, &words, folder, out, &OpenGate));
     }
     Ok(lue_plain(alloc, &words, folder, out))
 }
 
 /// The words of a text end with that status and that line.
 pub(crate) fn expect_end<F: Folder>(
-    rt: &impl Abort,
+    rt: &(impl Abort + Threads + Wait + Sync),
     alloc: Global,
     text: &str,
     folder: &mut F,
@@ -50,7 +53,7 @@ pub(crate) fn expect_end<F: Folder>(
     line: &str,
 ) -> Result<(), Fail> {
     let mut out = MemSink::new();
-    let end = end_of(alloc, text, folder, &mut out)?;
+    let end = end_of(rt, alloc, text, folder, &mut out)?;
     assert_eq!(rt; out.bytes(), line.as_bytes(), "no line {line}");
     assert_eq!(rt; status(&end), answer, "the status at {line}");
     Ok(())
@@ -58,7 +61,7 @@ pub(crate) fn expect_end<F: Folder>(
 
 // The put of this number is that of this file.
 fn expect_put(
-    rt: &impl Abort,
+    rt: &(impl Abort + Threads + Wait + Sync),
     alloc: Global,
     folder: &MemFolder,
     number: u64,
@@ -83,7 +86,7 @@ fn expect_put(
 
 /// These files were put, in order, and no others; a row is written below this head.
 pub(crate) fn expect_puts(
-    rt: &impl Abort,
+    rt: &(impl Abort + Threads + Wait + Sync),
     alloc: Global,
     folder: &MemFolder,
     head: &str,
@@ -99,7 +102,7 @@ pub(crate) fn expect_puts(
 
 /// A script ends so by these words, over its files.
 pub(crate) fn expect_case_by(
-    rt: &impl Abort,
+    rt: &(impl Abort + Threads + Wait + Sync),
     alloc: Global,
     words: &str,
     head: &str,
@@ -113,7 +116,7 @@ pub(crate) fn expect_case_by(
 
 /// A script ends so over whole maps.
 pub(crate) fn expect_case(
-    rt: &impl Abort,
+    rt: &(impl Abort + Threads + Wait + Sync),
     alloc: Global,
     head: &str,
     case: &Case,
@@ -123,7 +126,7 @@ pub(crate) fn expect_case(
 
 /// Each script ends so, over its files.
 pub(crate) fn expect_cases(
-    rt: &impl Abort,
+    rt: &(impl Abort + Threads + Wait + Sync),
     alloc: Global,
     head: &str,
     cases: &[Case],

@@ -4,7 +4,9 @@ use crate::files::{File, INPUTS, PUT_ELSEWHERE};
 use crate::runs::expect_case;
 use std::alloc::Global;
 use std::process::Abort;
+use std::sync::Wait;
 use std::test::Fail;
+use std::thread::Threads;
 
 /// A script, the line of its end, and the maps that it puts, in order.
 type Script = (&'static str, &'static str, &'static [File]);
@@ -59,7 +61,7 @@ static SCRIPTS: [Script; 6] = [
 ];
 
 // The scripts come to their ends so.
-fn expect_scripts(rt: &impl Abort, alloc: Global, rows: &[Script]) -> Result<(), Fail> {
+fn expect_scripts(rt: &(impl Abort + Threads + Wait + Sync), alloc: Global, rows: &[Script]) -> Result<(), Fail> {
     for (script, line, puts) in rows {
         let case = (*script, INPUTS, 0u8, *line, *puts);
         expect_case(rt, alloc, PUT_ELSEWHERE, &case)?;

@@ -7,7 +7,9 @@ use lue_run::{Ended, lue_main, lue_plain, status};
 use outside_io::{MemFolder, MemSink, OpenGate};
 use std::alloc::Global;
 use std::process::Abort;
+use std::sync::Wait;
 use std::test::Fail;
+use std::thread::Threads;
 
 /// The words by which each script is run: over whole maps, by the smallest tiles, by tiles that are cut at the map's border,
 /// by columns, and by one tile that is larger than the map.
@@ -229,7 +231,7 @@ static CASES: [Case; 21] = [
 
 // Each script ends so by these words.
 fn expect_cases_by(
-    rt: &impl Abort,
+    rt: &(impl Abort + Threads + Wait + Sync),
     alloc: Global,
     words: &str,
     cases: &[Case],
@@ -249,12 +251,12 @@ fn ends_as_over_whole_maps(rt: HostRuntime) -> Result<(), Fail> {
 }
 
 // The words are no command of the other top call, and touch nothing.
-fn expect_other(rt: &impl Abort, alloc: Global, text: &str, by_tiles: bool) -> Result<(), Fail> {
+fn expect_other(rt: &(impl Abort + Threads + Wait + Sync), alloc: Global, text: &str, by_tiles: bool) -> Result<(), Fail> {
     let words = words_of(alloc, text)?;
     let mut folder = folder_with(alloc, THREE, INPUTS, 1)?;
     let mut out = MemSink::new();
     let end = if by_tiles {
-        lue_main(alloc, &words, &mut folder, &mut out, &OpenGate)
+        lue_main(rt, alloc, &words, &mut folder, &mut out, &OpenGate)
     } else {
         lue_plain(alloc, &words, &mut folder, &mut out)
     };
@@ -327,7 +329,7 @@ static MANY_ENDS: [ManyEnd; 5] = [
 ];
 
 // By tiles of one cell the script ends so, and puts nothing.
-fn expect_many(rt: &impl Abort, alloc: Global, ones: &str, row: &ManyEnd) -> Result<(), Fail> {
+fn expect_many(rt: &(impl Abort + Threads + Wait + Sync), alloc: Global, ones: &str, row: &ManyEnd) -> Result<(), Fail> {
     let (both, call, answer, line) = *row;
     let mut folder = folder_of_many(alloc, ones, both, call)?;
     expect_end(rt, alloc, "run m.mod 1 1 1", &mut folder, answer, line)?;
@@ -350,7 +352,7 @@ fn the_status_of_too_many_tasks_stands_in_for_their_line(rt: HostRuntime) -> Res
     let mut folder = folder_of_many(alloc, ones.as_str(), true, 0)?;
     let mut out = MemSink::new();
     out.fail_on(vec![in alloc; 1]?);
-    let end = end_of(alloc, "run m.mod 1 1 1", &mut folder, &mut out)?;
+    let end = end_of(&rt, alloc, "run m.mod 1 1 1", &mut folder, &mut out)?;
     assert!(rt; matches!(end, Ended::OutFault { instead: 6 }));
     assert_eq!(rt; status(&end), 9);
     Ok(())

@@ -4,12 +4,11 @@ ghost use Rattle.std.specs.Prelude.{IfOk};
 ghost use Rattle.map_meaning.specs.Programs.{IsWellFormed};
 ghost use Rattle.script_syntax.specs.WellMade.{IsWellMade};
 
-use flow_task::BaseKit;
-use lone_runner::LoneRunner;
-use map_meaning::{BlockRunner, Program};
+use map_meaning::{BlockRunner, Program, StageEnd};
 use script_syntax::{Script, read_script};
 use script_types::lower;
-use std::alloc::Global;
+use span_runner::{SpanCall, SpanRunner};
+use std::alloc::{AllocError, Global};
 use std::process::Abort;
 use std::test::Fail;
 
@@ -41,7 +40,8 @@ fn program_of(alloc: Global, text: &[u8]) -> Result<Program, Fail>
 fn admitted(program: &Program, cols: u32, tile_cols: u32) -> Option<u64>
     requires { IsWellFormed program.now }
 {
-    let runner = LoneRunner::new(BaseKit, 1, tile_cols.clamp(1, 4096));
+    let none = |_call: SpanCall| -> Result<StageEnd, AllocError> { Err(AllocError) };
+    let runner = SpanRunner::new(1, tile_cols.clamp(1, 4096), 1, none);
     runner.admit(program, 1024, cols.clamp(1, 4096))
 }
 

@@ -1,13 +1,17 @@
 //! What the tests share: a script over whole maps and by tiles, and the comparing. No helper has a clause, so that a test sees
 //! few facts.
 
+ghost use Rattle.std.specs.Prelude.{IfOk};
+ghost use Rattle.span_runner.specs.SpanCalls.{GivesStage, MayBeAsked};
+
 use crate::files::folder_of;
 use flow_task::BaseKit;
-use lone_runner::LoneRunner;
+use map_meaning::StageEnd;
 use outside_io::MemFolder;
 use plain_eval::PlainRunner;
 use run_session::{SessionEnd, run_script};
-use std::alloc::Global;
+use span_runner::{SpanCall, SpanRunner, make_board};
+use std::alloc::{AllocError, Global};
 use std::process::Abort;
 use std::test::Fail;
 
@@ -43,9 +47,25 @@ fn whole(alloc: Global, folder: &mut MemFolder) -> Told {
     outcome(&run_script(alloc, b"m.mod", folder, &mut runner))
 }
 
+// What a span gives whose board is driven by the caller alone.
+fn alone(alloc: Global, rows: u32, cols: u32, call: SpanCall) -> Result<StageEnd, AllocError>
+    requires { MayBeAsked rows cols 1 call }
+    ensures { IfOk result (GivesStage call) }
+{
+    let mut board = make_board(alloc, BaseKit, call, rows, cols, 1, 1)?;
+    board.drive_alone(alloc)?;
+    board.collect(alloc)
+}
+
 // How the script comes out by tiles of this size.
 fn tiled(alloc: Global, [rows, cols]: [u32; 2], folder: &mut MemFolder) -> Told {
-    let mut runner = LoneRunner::new(BaseKit, rows.clamp(1, 4096), cols.clamp(1, 4096));
+    let rows = rows.clamp(1, 4096);
+    let cols = cols.clamp(1, 4096);
+    let call = move |call: SpanCall| -> Result<StageEnd, AllocError>
+        requires { MayBeAsked rows cols 1 call }
+        ensures { IfOk result (GivesStage call) }
+    { alone(alloc, rows, cols, call) };
+    let mut runner = SpanRunner::new(rows, cols, 1, call);
     outcome(&run_script(alloc, b"m.mod", folder, &mut runner))
 }
 
