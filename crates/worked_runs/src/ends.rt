@@ -129,7 +129,11 @@ static SCRIPTS: [Row; 24] = [
 const NOTHING: &[File] = &[];
 
 // Each script ends so, and puts nothing.
-fn expect_refused(rt: &(impl Abort + Threads + Wait + Sync), alloc: Global, rows: &[Row]) -> Result<(), Fail> {
+fn expect_refused(
+    rt: &(impl Abort + Threads + Wait + Sync),
+    alloc: Global,
+    rows: &[Row],
+) -> Result<(), Fail> {
     for (script, answer, line) in rows {
         let case = (*script, INPUTS, *answer, *line, NOTHING);
         expect_case(rt, alloc, PUT, &case)?;
@@ -175,7 +179,11 @@ static OTHER_WORDS: [&str; 28] = [
 ];
 
 // The texts give no command: nothing is read, and nothing is put.
-fn expect_usage(rt: &(impl Abort + Threads + Wait + Sync), alloc: Global, texts: &[&str]) -> Result<(), Fail> {
+fn expect_usage(
+    rt: &(impl Abort + Threads + Wait + Sync),
+    alloc: Global,
+    texts: &[&str],
+) -> Result<(), Fail> {
     for text in texts {
         let mut folder = folder_with(alloc, THREE, INPUTS, 1)?;
         expect_end(rt, alloc, text, &mut folder, 2, "usage\n")?;

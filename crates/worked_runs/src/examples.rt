@@ -150,7 +150,11 @@ static STORM_RUNOFF: Example = (
 );
 
 // The run of an example ends as it says, and puts what it says.
-fn expect_example(rt: &(impl Abort + Threads + Wait + Sync), alloc: Global, example: &Example) -> Result<(), Fail> {
+fn expect_example(
+    rt: &(impl Abort + Threads + Wait + Sync),
+    alloc: Global,
+    example: &Example,
+) -> Result<(), Fail> {
     let (words, script, files, answer, line, puts) = *example;
     let mut folder = folder_with(alloc, script, files, 0)?;
     expect_end(rt, alloc, words, &mut folder, answer, line)?;

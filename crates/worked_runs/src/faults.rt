@@ -220,7 +220,12 @@ fn expect_no_memory(
 }
 
 // Each call of a script fails in turn.
-fn expect_model(rt: &(impl Abort + Threads + Wait + Sync), alloc: Global, words: &str, model: &Model) -> Result<(), Fail> {
+fn expect_model(
+    rt: &(impl Abort + Threads + Wait + Sync),
+    alloc: Global,
+    words: &str,
+    model: &Model,
+) -> Result<(), Fail> {
     for row in model.4 {
         expect_fault(rt, alloc, words, model, row)?;
         expect_unwritten(rt, alloc, words, model, row)?;
@@ -230,7 +235,11 @@ fn expect_model(rt: &(impl Abort + Threads + Wait + Sync), alloc: Global, words:
 }
 
 // Each call of each script fails in turn.
-fn expect_models(rt: &(impl Abort + Threads + Wait + Sync), alloc: Global, words: &str) -> Result<(), Fail> {
+fn expect_models(
+    rt: &(impl Abort + Threads + Wait + Sync),
+    alloc: Global,
+    words: &str,
+) -> Result<(), Fail> {
     for model in &MODELS {
         expect_model(rt, alloc, words, model)?;
     }

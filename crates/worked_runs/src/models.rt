@@ -38,7 +38,12 @@ fn sum_of(bytes: &[u8]) -> u32 {
 }
 
 // The put of this number is that of this file.
-fn expect_put(rt: &(impl Abort + Threads + Wait + Sync), folder: &MemFolder, number: u64, file: &Sum) -> Result<(), Fail> {
+fn expect_put(
+    rt: &(impl Abort + Threads + Wait + Sync),
+    folder: &MemFolder,
+    number: u64,
+    file: &Sum,
+) -> Result<(), Fail> {
     let (name, length, sum) = *file;
     assert!(rt; number < folder.put_count(), "no put {number}");
     assert_eq!(rt;
@@ -53,7 +58,12 @@ fn expect_put(rt: &(impl Abort + Threads + Wait + Sync), folder: &MemFolder, num
 }
 
 // The words make these files, and no others.
-fn expect_model(rt: &(impl Abort + Threads + Wait + Sync), alloc: Global, text: &str, files: &[Sum]) -> Result<(), Fail> {
+fn expect_model(
+    rt: &(impl Abort + Threads + Wait + Sync),
+    alloc: Global,
+    text: &str,
+    files: &[Sum],
+) -> Result<(), Fail> {
     let mut folder = MemFolder::new(alloc);
     expect_end(rt, alloc, text, &mut folder, 0, "made files=5\n")?;
     assert_eq!(rt; folder.put_count(), files.len() as u64, "puts of {text}");
@@ -79,7 +89,12 @@ static FAULTS: [&str; 5] = [
 ];
 
 // The put behind so many fails: that is told, and nothing more is put.
-fn expect_fault(rt: &(impl Abort + Threads + Wait + Sync), alloc: Global, before: u64, line: &str) -> Result<(), Fail> {
+fn expect_fault(
+    rt: &(impl Abort + Threads + Wait + Sync),
+    alloc: Global,
+    before: u64,
+    line: &str,
+) -> Result<(), Fail> {
     let mut folder = MemFolder::new(alloc);
     folder.fail_on(vec![in alloc; before.saturating_add(1)]?);
     expect_end(rt, alloc, "make 0", &mut folder, 8, line)?;

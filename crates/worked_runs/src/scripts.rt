@@ -61,7 +61,11 @@ static SCRIPTS: [Script; 6] = [
 ];
 
 // The scripts come to their ends so.
-fn expect_scripts(rt: &(impl Abort + Threads + Wait + Sync), alloc: Global, rows: &[Script]) -> Result<(), Fail> {
+fn expect_scripts(
+    rt: &(impl Abort + Threads + Wait + Sync),
+    alloc: Global,
+    rows: &[Script],
+) -> Result<(), Fail> {
     for (script, line, puts) in rows {
         let case = (*script, INPUTS, 0u8, *line, *puts);
         expect_case(rt, alloc, PUT_ELSEWHERE, &case)?;

@@ -251,7 +251,12 @@ fn ends_as_over_whole_maps(rt: HostRuntime) -> Result<(), Fail> {
 }
 
 // The words are no command of the other top call, and touch nothing.
-fn expect_other(rt: &(impl Abort + Threads + Wait + Sync), alloc: Global, text: &str, by_tiles: bool) -> Result<(), Fail> {
+fn expect_other(
+    rt: &(impl Abort + Threads + Wait + Sync),
+    alloc: Global,
+    text: &str,
+    by_tiles: bool,
+) -> Result<(), Fail> {
     let words = words_of(alloc, text)?;
     let mut folder = folder_with(alloc, THREE, INPUTS, 1)?;
     let mut out = MemSink::new();
@@ -329,7 +334,12 @@ static MANY_ENDS: [ManyEnd; 5] = [
 ];
 
 // By tiles of one cell the script ends so, and puts nothing.
-fn expect_many(rt: &(impl Abort + Threads + Wait + Sync), alloc: Global, ones: &str, row: &ManyEnd) -> Result<(), Fail> {
+fn expect_many(
+    rt: &(impl Abort + Threads + Wait + Sync),
+    alloc: Global,
+    ones: &str,
+    row: &ManyEnd,
+) -> Result<(), Fail> {
     let (both, call, answer, line) = *row;
     let mut folder = folder_of_many(alloc, ones, both, call)?;
     expect_end(rt, alloc, "run m.mod 1 1 1", &mut folder, answer, line)?;
