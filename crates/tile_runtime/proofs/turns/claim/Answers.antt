@@ -1,0 +1,17 @@
+use Rattle.turn_cell.specs.Seats.{authors_of, history_seen, plan_known}
+use Rattle.task_board.specs.declared.jobs.BoardPlan.{BoardPlan}
+use Rattle.tile_runtime.specs.inside.Knowledge.{plan_at}
+use Rattle.tile_runtime.proofs.TurnLemmas.{after_claim, may_claim, meet, turned}
+use Rattle.tile_runtime.proofs.turns.claim.Goals as goal
+
+pub with_turn-requires-clause-acts : goal.with_turn-requires-clause-acts
+with_turn-requires-clause-acts g c =
+    let p : BoardPlan = plan_at c.args.crew.now.desk in
+    λ b m. may_claim p c.args.worker (history_seen c.args.seat.now) b (meet p c.args.worker (authors_of c.args.seat.now) (plan_known c.args.seat.now) (history_seen c.args.seat.now) b c.requires.seat.authors c.requires.seat.plan m.planned m.begins m.own) c.requires.seat.number c.requires.free
+
+pub returns-clause-claimed : goal.returns-clause-claimed
+returns-clause-claimed g c =
+    let p : BoardPlan = plan_at c.args.crew.now.desk in
+    let t = c.with_turn.ensures.turn in
+    let turn = turned p c.args.worker (authors_of c.args.seat.now) (plan_known c.args.seat.now) (history_seen c.args.seat.now) (history_seen c.with_turn.new.seat) t.0 t.1 c.requires.seat.authors c.requires.seat.plan t.2.may.planned t.2.may.begins t.2.may.own t.2.plan t.2.seen in
+    after_claim g.K.FlowKit.work_of p c.args.worker (history_seen c.args.seat.now) (history_seen c.with_turn.new.seat) t.0 t.1 c.with_turn.result turn c.requires.free t.2.did.0 t.2.did.1
