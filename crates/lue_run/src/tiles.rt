@@ -12,10 +12,11 @@ use flow_task::BaseKit;
 use map_meaning::StageEnd;
 use outside_io::{Folder, Gate};
 use run_session::{SessionEnd, run_script};
-use span_runner::{SpanCall, SpanRunner, make_board};
+use span_runner::{SpanCall, SpanRunner};
 use std::alloc::{AllocError, Global};
 use std::sync::Wait;
 use std::thread::Threads;
+use tile_runtime::run_span;
 
 /// How many steps are evaluated at once.
 const BLOCK: u32 = 1;
@@ -36,31 +37,7 @@ fn run_by<F: Folder, C: Fn(SpanCall) -> Result<StageEnd, AllocError> + Drop>(
     run_script(alloc, name.bytes(), folder, &mut runner)
 }
 
-// What a span gives, by workers over its board.
-fn run_span<G: Gate + Sync, R: Threads + Wait + Sync>(
-    _rt: &R,
-    alloc: Global,
-    tiles: Tiles,
-    _gate: &G,
-    call: SpanCall,
-) -> Result<StageEnd, AllocError>
-    requires { MayBeAsked tiles.rows tiles.cols 1 call }
-    ensures { IfOk result (GivesStage call) }
-{
-    let mut board = make_board(
-        alloc,
-        BaseKit,
-        call,
-        tiles.rows,
-        tiles.cols,
-        BLOCK,
-        tiles.workers,
-    )?;
-    board.drive_alone(alloc)?;
-    board.collect(alloc)
-}
-
-/// Runs the script of this name by tiles and workers.
+/// Runs the script of this name by tiles and their workers, which pass the gate between their claim of a task and their work on it.
 pub fn run_tiles<F: Folder, G: Gate + Sync, R: Threads + Wait + Sync>(
     rt: &R,
     alloc: Global,
@@ -75,6 +52,18 @@ pub fn run_tiles<F: Folder, G: Gate + Sync, R: Threads + Wait + Sync>(
     let evaluate = move |call: SpanCall| -> Result<StageEnd, AllocError>
         requires { IsSync R.row × IsSync G.row × MayBeAsked tiles.rows tiles.cols 1 call }
         ensures { IfOk result (GivesStage call) }
-    { run_span(rt, alloc, tiles, gate, call) };
+    {
+        run_span(
+            rt,
+            alloc,
+            BaseKit,
+            gate,
+            call,
+            tiles.rows,
+            tiles.cols,
+            BLOCK,
+            tiles.workers,
+        )
+    };
     run_by(alloc, name, tiles, folder, evaluate)
 }

@@ -156,8 +156,8 @@ pub fn lue_plain<F: Folder, S: Sink>(
 /// so many rows and columns, in cells.
 ///
 /// Files, their order and the end are those that `plain` has, for every size of the tiles and every number of workers, but for a
-/// script with too many tasks: once its inputs are read, it ends with their number. The tasks are done one after the other,
-/// whatever the number of workers, and no task passes the gate.
+/// script with too many tasks: once its inputs are read, it ends with their number. The workers are threads that share the tasks of
+/// a span; each passes the gate between its claim of a task and its work on it.
 pub fn lue_main<F: Folder, S: Sink, G: Gate + Sync, R: Threads + Wait + Sync>(
     rt: &R,
     alloc: Global,
