@@ -51,6 +51,7 @@ demo: $(PROGRAM)
 	@scripts/demo $(PROGRAM) examples/rainfall-runoff
 	@scripts/demo $(PROGRAM) examples/flood-stage
 	@scripts/demo $(PROGRAM) examples/soil-moisture
+	@scripts/demo $(PROGRAM) examples/gauged-areas
 
 # The gate: every proof, must-fail edit, test and program, and then the project's own checks: of its definitions, of its
 # documents, of the editors' colours, of the built program and of what is installed of it.

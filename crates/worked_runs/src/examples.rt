@@ -40,6 +40,51 @@ static FIRST_SUM: Example = (
     )],
 );
 
+/// gauged-areas
+static GAUGED_AREAS: Example = (
+    "plain m.mod",
+    "#! timeoutput mean\n# Rain, soil moisture and runoff of three gauged areas, as means over the area above each gauge: what is compared with\n# what the gauges give. Lengths are millimetres, steps are days.\nbinding\n Rain = rain.tss;                       # a column for each rain gauge\n Evaporation = evaporation.tss;         # what a full soil evaporates, the same everywhere\n Nearest = nearest.asc : nominal;       # the rain gauge that is nearest to a cell\n Area = area.asc : nominal;             # the gauged area that a cell belongs to, 0 for none\n Soil = soil.asc : nominal;             # 1 sand, 2 loam, 3 clay; missing on open water\n Capacity = capacity.tbl;               # what a soil can hold\n MeanRain = rain_mean.tss;  Moisture = moisture.tss;  Runoff = runoff.tss;\nareamap Area;\ntimer 1 8 1;\ninitial\n Cap = lookupscalar(Capacity, Soil);\n Store = Cap / 2;\ndynamic\n Fallen = timeinputscalar(Rain, Nearest);           # missing where the nearest gauge has no reading\n Dried = Store - timeinputscalar(Evaporation, 1) * Store / Cap;\n Full = Dried + cover(Fallen, 0);\n Store = min(Full, Cap);\n report MeanRain = timeoutput(Area, Fallen);\n report Moisture = timeoutput(Area, 100 * Store / Cap);   # percent of what the soils can hold\n report Runoff = timeoutput(Area, Full - Store);\n",
+    &[
+        (
+            "area.asc",
+            "ncols 12\nnrows 8\nxllcorner 204000\nyllcorner 475000\ncellsize 500\nNODATA_value -9999\n0 1 1 1 1 2 2 2 2 2 0 0\n1 1 1 1 1 2 2 2 2 2 2 0\n1 1 1 1 1 1 2 2 2 2 2 2\n0 1 1 1 1 1 2 2 2 2 2 0\n0 1 1 1 1 3 3 3 2 2 0 0\n0 0 3 3 3 3 3 3 3 3 0 0\n0 0 0 3 3 3 3 3 3 3 3 0\n0 0 0 0 3 3 3 3 3 0 0 0\n",
+        ),
+        ("capacity.tbl", "1 40\n2 60\n3 80\n"),
+        (
+            "evaporation.tss",
+            "evaporation of a full soil in millimetres a day\n2\ntimestep\n1\n1 4\n2 2\n3 2\n4 2\n5 4\n6 5\n7 2\n8 4\n",
+        ),
+        (
+            "nearest.asc",
+            "ncols 12\nnrows 8\nxllcorner 204000\nyllcorner 475000\ncellsize 500\nNODATA_value -9999\n1 1 1 1 1 1 2 2 2 2 2 2\n1 1 1 1 1 1 2 2 2 2 2 2\n1 1 1 1 1 1 2 2 2 2 2 2\n1 1 1 1 1 1 2 2 2 2 2 2\n1 1 1 1 1 3 3 3 2 2 2 2\n3 3 3 3 3 3 3 3 3 3 3 3\n3 3 3 3 3 3 3 3 3 3 3 3\n3 3 3 3 3 3 3 3 3 3 3 3\n",
+        ),
+        (
+            "rain.tss",
+            "rain in millimetres a day, 1e31 where a gauge has no reading\n4\ntimestep\nwest\neast\nsouth\n1 0 0 0\n2 12 6 8\n3 30 24 20\n4 18 14 1e31\n5 2 4 0\n6 0 0 0\n7 40 36 44\n8 0 0 1\n",
+        ),
+        (
+            "soil.asc",
+            "ncols 12\nnrows 8\nxllcorner 204000\nyllcorner 475000\ncellsize 500\nNODATA_value -9999\n3 3 3 2 2 2 2 3 3 3 3 3\n3 3 2 2 2 1 2 2 3 3 3 3\n3 2 2 2 1 1 1 2 2 3 3 3\n3 2 2 1 1 1 1 1 2 2 3 3\n2 2 2 1 1 -9999 -9999 1 1 2 2 3\n2 2 1 1 -9999 -9999 -9999 1 1 2 2 2\n2 2 2 1 1 -9999 1 1 2 2 2 2\n2 2 2 2 1 1 1 2 2 2 2 2\n",
+        ),
+    ],
+    0,
+    "done files=3 steps=8\n",
+    &[
+        (
+            "rain_mean.tss",
+            "timeseries scalar\n4\ntimestep\n1\n2\n3\n1 0 0 0\n2 12 6.5 8\n3 30 24.5 20\n4 18 14.333333 1e31\n5 2 3.833333 0\n6 0 0 0\n7 40 36.333333 44\n8 0 0 1\n",
+        ),
+        (
+            "moisture.tss",
+            "timeseries scalar\n4\ntimestep\n1\n2\n3\n1 46.354167 46.666667 45.555556\n2 66.547744 56.161459 61.314815\n3 99.433268 90.452687 96.609877\n4 100 99.127295 92.278436\n5 96.354167 98.823708 84.015429\n6 87.593316 90.579807 74.639144\n7 100 100 100\n8 92.708333 93.333333 93.333333\n",
+        ),
+        (
+            "runoff.tss",
+            "timeseries scalar\n4\ntimestep\n1\n2\n3\n1 0 0 0\n2 0 0 0\n3 9.028681 2.04956 2.563333\n4 15.557949 6.032988 0\n5 0 0 0\n6 0 0 0\n7 31.430426 28.750629 30.649037\n8 0 0 0\n",
+        ),
+    ],
+);
+
 /// soil-bucket
 static SOIL_BUCKET: Example = (
     "plain m.mod",
@@ -164,6 +209,11 @@ fn expect_example(
 #[test]
 fn first_sum_comes_out(rt: HostRuntime) -> Result<(), Fail> {
     expect_example(&rt, rt.alloc(), &FIRST_SUM)
+}
+
+#[test]
+fn gauged_areas_comes_out(rt: HostRuntime) -> Result<(), Fail> {
+    expect_example(&rt, rt.alloc(), &GAUGED_AREAS)
 }
 
 #[test]
