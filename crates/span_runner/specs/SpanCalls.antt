@@ -27,7 +27,7 @@ pub record MayBeAsked (tile_rows tile_cols block : ℕ) (call : SpanCall) : Type
   pub knows : Knows (arc_value call.program) call.span (arc_value call.known)
   pub sides : AreSides (arc_value call.known).rows (arc_value call.known).cols tile_rows tile_cols
   pub few : program_too_many tile_rows tile_cols block (arc_value call.program)
-    (arc_value call.known).rows (arc_value call.known).cols ≡ None
+      (arc_value call.known).rows (arc_value call.known).cols ≡ None
 
 -- what a span gives
 abbrev pub GivesStage : SpanCall → StageEnd → Type 0
@@ -35,7 +35,7 @@ GivesStage call end = end ≡ stage_of (arc_value call.program) call.span (arc_v
 
 -- A call with this condition and this promise can be made for each span that may be asked for, and then gives what the span gives.
 pub record CanEvaluate (pre : SpanCall → Type 0) (post : SpanCall → Result StageEnd AllocError → Type 0)
-  (tile_rows tile_cols block : ℕ) : Type 0 where
+    (tile_rows tile_cols block : ℕ) : Type 0 where
   pub callable : (call : SpanCall) → MayBeAsked tile_rows tile_cols block call → pre call
   pub gives : (call : SpanCall) (end : StageEnd) → post call (Ok end) → GivesStage call end
 
