@@ -37,7 +37,31 @@ fn run_by<F: Folder, C: Fn(SpanCall) -> Result<StageEnd, AllocError> + Drop>(
     run_script(alloc, name.bytes(), folder, &mut runner)
 }
 
-/// Runs the script of this name by tiles and their workers, which pass the gate between their claim of a task and their work on it.
+// What a span gives, by workers over its tiles.
+fn evaluated<G: Gate + Sync, R: Threads + Wait + Sync>(
+    rt: &R,
+    alloc: Global,
+    tiles: Tiles,
+    gate: &G,
+    call: SpanCall,
+) -> Result<StageEnd, AllocError>
+    requires { MayBeAsked tiles.rows tiles.cols 1 call }
+    ensures { IfOk result (GivesStage call) }
+{
+    run_span(
+        rt,
+        alloc,
+        BaseKit,
+        gate,
+        call,
+        tiles.rows,
+        tiles.cols,
+        BLOCK,
+        tiles.workers,
+    )
+}
+
+/// Runs the script of this name by tiles and workers, each of whom passes the gate between its claim of a task and its work on it.
 pub fn run_tiles<F: Folder, G: Gate + Sync, R: Threads + Wait + Sync>(
     rt: &R,
     alloc: Global,
@@ -52,18 +76,6 @@ pub fn run_tiles<F: Folder, G: Gate + Sync, R: Threads + Wait + Sync>(
     let evaluate = move |call: SpanCall| -> Result<StageEnd, AllocError>
         requires { IsSync R.row × IsSync G.row × MayBeAsked tiles.rows tiles.cols 1 call }
         ensures { IfOk result (GivesStage call) }
-    {
-        run_span(
-            rt,
-            alloc,
-            BaseKit,
-            gate,
-            call,
-            tiles.rows,
-            tiles.cols,
-            BLOCK,
-            tiles.workers,
-        )
-    };
+    { evaluated(rt, alloc, tiles, gate, call) };
     run_by(alloc, name, tiles, folder, evaluate)
 }
