@@ -1,0 +1,3 @@
+pub mod Jobs
+pub mod Lists
+pub mod Free
